@@ -1,0 +1,13 @@
+pub mod Lists
+pub mod Pass
+pub mod Stage
+pub mod PairCheck
+pub mod Merge
+pub mod Cuts
+pub mod Neighbours
+pub mod Samples
+pub mod Encode
+pub mod RowsAt
+pub mod Accepted
+pub mod Readings
+pub mod Demands

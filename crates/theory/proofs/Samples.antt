@@ -1,0 +1,34 @@
+-- Document 01's cases marked P, computed on the definitions; and what its sample files are.
+use mathlib.Core.Path.{_≡_, refl}
+use mathlib.Core.List.{List, [], _∷_, map}
+use mathlib.Core.Option.{Option, none, some}
+use Prim.Native.Nat.{ℕ}
+use lib.ListN.{getD}
+use Rattle.theory.specs.Dictionary.{Dictionary}
+use Rattle.theory.specs.Merge.{encode}
+use Rattle.theory.specs.Parts.{Parts, dictionary, partsBelow, longestAt}
+use Rattle.theory.specs.Shortest.{shortest, greedy}
+use Rattle.theory.specs.Typing.{countAt}
+use Rattle.theory.specs.Tree.{intervalCount}
+use Rattle.theory.specs.Backtracking.{backtrack}
+use Rattle.theory.specs.Table.{tableCodes, lastCodes, lastCode}
+use Rattle.theory.specs.Samples.{E, F, G, Case, cases, abcd}
+
+-- P1 to P10
+pub samples : map (λ (c : Case). c .given) cases ≡ map (λ (c : Case). c .said) cases
+unfolding cases E F encode dictionary partsBelow shortest greedy longestAt countAt intervalCount
+samples = refl
+
+-- G has no parts for row 0
+pub G-refused : getD (partsBelow G 259) 0 none ≡ none
+unfolding G partsBelow
+G-refused = refl
+
+-- backtracking and the table on P1
+pub backtracked : backtrack (dictionary E) abcd ≡ 97 ∷ 256 ∷ 100 ∷ []
+unfolding E dictionary partsBelow backtrack
+backtracked = refl
+
+pub tabled : tableCodes (dictionary E) abcd ≡ 97 ∷ 256 ∷ 100 ∷ []
+unfolding E dictionary partsBelow tableCodes lastCodes lastCode encode
+tabled = refl

@@ -10,4 +10,5 @@ pub mod Encode
 pub mod RowsAt
 pub mod Accepted
 pub mod Readings
+pub mod PairSteps
 pub mod Demands

@@ -1,14 +1,31 @@
+-- Lists
 pub mod Lists
+-- The paper's passes, the pair check and the merge procedure
 pub mod Pass
 pub mod Stage
 pub mod PairCheck
 pub mod Merge
 pub mod Cuts
 pub mod Neighbours
-pub mod Samples
 pub mod Encode
+-- The rows that begin a text; parts; readings
 pub mod RowsAt
 pub mod Accepted
 pub mod Readings
 pub mod PairSteps
+-- Table and typing
+pub mod TypingLists
+pub mod Sides
+pub mod TypingRows
+pub mod Typing
+pub mod Table
+-- Shortest and greedy
+pub mod ShortestLists
+pub mod Longest
+pub mod ShortestSteps
+pub mod Shortest
+pub mod Greedy
+pub mod Decoding
+-- What the demands say, and document 01's samples
 pub mod Demands
+pub mod Samples

@@ -70,7 +70,7 @@ module _ (D : Dictionary) where
     pub rows-short : (l : ℕ) (t : List ℕ) (c : ℕ) → In c (rowsUpTo D l t) → length (D .bytes c) ≤ l
     rows-short l t c m = rows-in l t c m .short
 
-    filled : (c : ℕ) → 0 < length (D .bytes c)
+    pub filled : (c : ℕ) → 0 < length (D .bytes c)
     filled c = go (D .bytes c) refl
       where
         go : (b : List ℕ) → D .bytes c ≡ b → 0 < length (D .bytes c)

@@ -1,7 +1,9 @@
 -- The shortest and the greedy codes of a text.
+use mathlib.Core.Path.{_≡_}
+use mathlib.Core.Logic.{_⊎_}
 use mathlib.Core.List.{List, [], _∷_}
 use mathlib.Core.Bool.{true, false}
-use Prim.Native.Nat.{ℕ, zero, suc, _-_}
+use Prim.Native.Nat.{ℕ, zero, suc, _-_, _<_}
 use lib.ListN.{length, getD, drop}
 use lib.Dec.{ltb}
 use Rattle.theory.specs.Dictionary.{Dictionary, none}
@@ -28,6 +30,12 @@ module _ (D : Dictionary) where
   -- fewest codes; among those the longest first row, then the longest second, and so on
   unfoldable pub shortest : List ℕ → List ℕ
   shortest t = getD (shortestOfTails t) 0 []
+
+  -- at the first place where two code lists differ, the first one has the longer row
+  abbrev pub LongerFirst : List ℕ → List ℕ → Type 0
+  LongerFirst [] M = ⊥
+  LongerFirst (c ∷ L) [] = ⊥
+  LongerFirst (c ∷ L) (d ∷ M) = (length (D .bytes d) < length (D .bytes c)) ⊎ ((c ≡ d) × LongerFirst L M)
 
   -- the longest row at each place
   abbrev pub greedyUpTo : ℕ → List ℕ → List ℕ

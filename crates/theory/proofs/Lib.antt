@@ -26,6 +26,9 @@ pub mod ShortestSteps
 pub mod Shortest
 pub mod Greedy
 pub mod Decoding
+-- The tree of prefixes, and intervals
+pub mod Tree
+pub mod Interval
 -- What the demands say, and document 01's samples
 pub mod Demands
 pub mod Samples

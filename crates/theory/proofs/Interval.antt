@@ -13,16 +13,13 @@ use Rattle.theory.specs.Dictionary.{Dictionary, none, spell}
 use Rattle.theory.specs.Merge.{encode}
 use Rattle.theory.specs.Table.{lastCode}
 use Rattle.theory.specs.Tree.{above, number, end, parentOf, treeNumber, treeEnd, depth, intervalCount}
-use Rattle.theory.proofs.Lists.{nil-cons, lastOr-append, lt-or-ge, snoc-view}
+use Rattle.theory.proofs.Lists.{snoc-last, nil-cons, lastOr-append, lt-or-ge, snoc-view}
 use Rattle.theory.proofs.Stage.{AllApart, spell-append, neighbours, unique}
 use Rattle.theory.proofs.PairCheck.{Lawful}
 use Rattle.theory.proofs.Merge.{merge-is-stage}
 use Rattle.theory.proofs.Neighbours.{spell-snoc}
 use Rattle.theory.proofs.Encode.{encode-spells, encode-nil, encode-parts}
 use Rattle.theory.proofs.Tree.{above-own, above-le, above-parent, path-ind, tree-ind, above↔inside}
-
-snoc-last : (X Y : List ℕ) (c d : ℕ) → X ++ c ∷ [] ≡ Y ++ d ∷ [] → c ≡ d
-snoc-last X Y c d e = sym (lastOr-append 0 0 X (c ∷ []) (λ z. nil-cons (sym z))) ∙ ap (lastOr 0) e ∙ lastOr-append 0 0 Y (d ∷ []) (λ z. nil-cons (sym z))
 
 snoc-before : (X Y : List ℕ) (c d : ℕ) → X ++ c ∷ [] ≡ Y ++ d ∷ [] → X ≡ Y
 snoc-before X Y c d e = append-cancel-right X Y (c ∷ []) (e ∙ ap (λ (z : ℕ). Y ++ z ∷ []) (sym (snoc-last X Y c d e)))

@@ -26,6 +26,9 @@ lastOr-append d e [] [] h = absurd (h refl)
 lastOr-append d e [] (y ∷ B) h = refl
 lastOr-append d e (x ∷ A) B h = lastOr-append x e A B h
 
+pub snoc-last : (X Y : List ℕ) (c d : ℕ) → X ++ c ∷ [] ≡ Y ++ d ∷ [] → c ≡ d
+snoc-last X Y c d e = sym (lastOr-append 0 0 X (c ∷ []) (λ z. nil-cons (sym z))) ∙ ap (lastOr 0) e ∙ lastOr-append 0 0 Y (d ∷ []) (λ z. nil-cons (sym z))
+
 pub lt-or-ge : (a b : ℕ) → (a < b) ⊎ (b ≤ a)
 lt-or-ge a b = go (decLt a b)
   where

@@ -10,7 +10,7 @@ use Rattle.theory.specs.Dictionary.{Dictionary, KnownText, none}
 use Rattle.theory.specs.Lists.{firstOr}
 use Rattle.theory.specs.Parts.{rowsUpTo, rowsAt, longestAt, prefixes}
 use Rattle.theory.proofs.PairCheck.{Lawful}
-use Rattle.theory.proofs.RowsAt.{filled, In, rows-known, rows-begin, rows-short, rows-every, rows-chain, rows-some}
+use Rattle.theory.proofs.RowsAt.{different, filled, In, rows-known, rows-begin, rows-short, rows-every, rows-chain, rows-some}
 use Rattle.theory.proofs.ShortestLists.{Falling}
 
 module _ (D : Dictionary) where
@@ -36,13 +36,13 @@ module _ (D : Dictionary) where
   module _ (A : Lawful D) where
     -- a row in the list of the rows that begin t
     pub row-begins : (t : List ℕ) (c : ℕ) → In c (rowsAt D t) → t ≡ D .bytes c ++ drop (rowLength c) t
-    row-begins t c m = let b = rows-begin D A (length t) t c m in b .1 ∙ ap (λ (r : List ℕ). D .bytes c ++ r) (rest-is t c (b .0) (b .1))
+    row-begins t c m = let b = rows-begin D (length t) t c m in b .1 ∙ ap (λ (r : List ℕ). D .bytes c ++ r) (rest-is t c (b .0) (b .1))
 
     falling : (cs : List ℕ) (l : ℕ) (t : List ℕ) → l ≤ length t → rowsUpTo D l t ≡ cs → Falling rowLength cs
     falling [] l t h e = tt
     falling (c ∷ cs) l t h e =
-        let q : cs ≡ prefixes D c = rows-chain D A l t c cs h e in (
-          (λ d m. let s = rows-short D A (rowLength c - 1) (D .bytes c) d (rw q at m) in omega (arith, filled D A c)),
+        let q : cs ≡ prefixes D c = rows-chain D l t c cs h e in (
+          (λ d m. let s = rows-short D (rowLength c - 1) (D .bytes c) d (rw q at m) in omega (arith, filled D A c)),
           falling cs (rowLength c - 1) (D .bytes c) (omega arith) (sym q),
         )
 
@@ -58,7 +58,7 @@ module _ (D : Dictionary) where
       where
         go : (cs : List ℕ) → rowsAt D (b ∷ t) ≡ cs → In (D .code b) cs → rowsAt D (b ∷ t) ≡ firstOr none (rowsAt D (b ∷ t)) ∷ prefixes D (firstOr none (rowsAt D (b ∷ t)))
         go [] e m = absurd m
-        go (c ∷ cs) e m = rw e (ap (λ (l : List ℕ). c ∷ l) (rows-chain D A (length (b ∷ t)) (b ∷ t) c cs (omega arith) e))
+        go (c ∷ cs) e m = rw e (ap (λ (l : List ℕ). c ∷ l) (rows-chain D (length (b ∷ t)) (b ∷ t) c cs (omega arith) e))
 
     first-longest : (c : ℕ) (cs : List ℕ) (d : ℕ) → Falling rowLength (c ∷ cs) → In d (c ∷ cs) → rowLength d ≤ rowLength c
     first-longest c cs d w m = ⊎-elim (λ e. omega (arith, ap rowLength e)) (λ n. let l = w .0 d n in omega arith) m
@@ -68,8 +68,8 @@ module _ (D : Dictionary) where
         let e = rows-front t k h in
         let m : In (longestAt D t) (rowsAt D t) = rw e (inl refl) in
         record {
-          known = rows-known D A (length t) t (longestAt D t) m;
+          known = rows-known D (length t) t (longestAt D t) m;
           begins = row-begins t (longestAt D t) m;
           longest = λ d r n q. first-longest (longestAt D t) (prefixes D (longestAt D t)) d (rw e at (rows-falling t))
-              (rw e at (rows-every D A (length t) t d r n q (omega (arith, ap length q, length-append (D .bytes d) r))));
+              (rw e at (rows-every D (different D A) (length t) t d r n q (omega (arith, ap length q, length-append (D .bytes d) r))));
         }

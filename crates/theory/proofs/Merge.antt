@@ -43,6 +43,18 @@ module _ (D : Dictionary) where
       go true e ih = rw (rowBelow-hit w b e) (omega arith)
       go false e ih = rw (rowBelow-miss w b e) (ih (omega arith))
 
+  -- the row with these bytes, if rows differ
+  pub rowBelow-found : ((u v : ℕ) → u < D .count → v < D .count → D .bytes u ≡ D .bytes v → u ≡ v) → (m w : ℕ) (b : List ℕ) → m ≤ D .count → w < m → D .bytes w ≡ b → rowBelow D m b ≡ w
+  rowBelow-found distinct zero w b hm h e = absurd (omega arith)
+  rowBelow-found distinct (suc m) w b hm h e = go (equal (D .bytes m) b) refl (λ l. rowBelow-found distinct m w b (omega arith) l e)
+    where
+      go : (c : Bool) → equal (D .bytes m) b ≡ c → (w < m → rowBelow D m b ≡ w) → rowBelow D (suc m) b ≡ w
+      go true f ih = rowBelow-hit m b f ∙ distinct m w hm (omega arith) (equal-eq (D .bytes m) b f ∙ sym e)
+      go false f ih = rowBelow-miss m b f ∙ ih (⊎-elim
+          (λ i. let i' : w ≡ m = omega arith in absurd (true-false (sym (equal-refl b) ∙ ap (λ (l : List ℕ). equal l b) (sym e ∙ ap (D .bytes) i') ∙ f)))
+          (λ l. omega arith)
+          (eq-or-lt-of-le h))
+
   pub lowest-le : (S : List ℕ) → lowestJoin D S ≤ D .count
   lowest-le [] = omega arith
   lowest-le (x ∷ []) = omega arith
@@ -97,19 +109,8 @@ module _ (D : Dictionary) where
     pub distinct : (u v : ℕ) → u < D .count → v < D .count → D .bytes u ≡ D .bytes v → u ≡ v
     distinct u v hu hv e = cons-head (sym (itself D A u (D .count) hu (λ _. hu)) ∙ ap (stage D (D .count)) e ∙ itself D A v (D .count) hv (λ _. hv))
 
-    pub rowBelow-found : (m w : ℕ) (b : List ℕ) → m ≤ D .count → w < m → D .bytes w ≡ b → rowBelow D m b ≡ w
-    rowBelow-found zero w b hm h e = absurd (omega arith)
-    rowBelow-found (suc m) w b hm h e = go (equal (D .bytes m) b) refl (λ l. rowBelow-found m w b (omega arith) l e)
-      where
-        go : (c : Bool) → equal (D .bytes m) b ≡ c → (w < m → rowBelow D m b ≡ w) → rowBelow D (suc m) b ≡ w
-        go true f ih = rowBelow-hit m b f ∙ distinct m w hm (omega arith) (equal-eq (D .bytes m) b f ∙ sym e)
-        go false f ih = rowBelow-miss m b f ∙ ih (⊎-elim
-            (λ i. let i' : w ≡ m = omega arith in absurd (true-false (sym (equal-refl b) ∙ ap (λ (l : List ℕ). equal l b) (sym e ∙ ap (D .bytes) i') ∙ f)))
-            (λ l. omega arith)
-            (eq-or-lt-of-le h))
-
     pub join-is : (w x y : ℕ) → w < D .count → D .bytes x ++ D .bytes y ≡ D .bytes w → join D x y ≡ w
-    join-is w x y h e = rowBelow-found (D .count) w (D .bytes x ++ D .bytes y) (omega arith) h (sym e)
+    join-is w x y h e = rowBelow-found distinct (D .count) w (D .bytes x ++ D .bytes y) (omega arith) h (sym e)
 
     -- two or more codes that are a stage of a row's bytes: the row is not below the stage
     late : (p w x y : ℕ) (S : List ℕ) → w < D .count → stage D p (D .bytes w) ≡ x ∷ y ∷ S → p ≤ w

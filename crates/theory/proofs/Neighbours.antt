@@ -7,7 +7,7 @@ use Prim.Native.Nat.{ℕ, zero, suc, _+_, _≤_, _<_}
 use native.Mathlib.Omega.{arith}
 use lib.ListN.{length, length-append}
 use lib.Dec.{ltb}
-use Rattle.theory.proofs.Lists.{cons-head, cons-tail, nil-cons, true-false, lastOr-append, lt-or-ge, bool-cases}
+use Rattle.theory.proofs.Lists.{snoc-last, cons-head, cons-tail, nil-cons, true-false, lastOr-append, lt-or-ge, bool-cases}
 use Rattle.theory.specs.Lists.{lastOr}
 use Rattle.theory.specs.Dictionary.{Dictionary, spell}
 use Rattle.theory.proofs.Stage.{Laws, listed-is, StayApart, AllApart}
@@ -64,13 +64,10 @@ module _ (D : Dictionary) where
           follows = chain-unsnoc q X c (St.neighbours D L q (X ++ c ∷ []) (ap (stage D q) (sym t') ∙ e));
         }
 
-    snoc-inj : (X Y : List ℕ) (c d : ℕ) → X ++ c ∷ [] ≡ Y ++ d ∷ [] → c ≡ d
-    snoc-inj X Y c d e = sym (lastOr-append 0 0 X (c ∷ []) (λ z. nil-cons (sym z))) ∙ ap (lastOr 0) e ∙ lastOr-append 0 0 Y (d ∷ []) (λ z. nil-cons (sym z))
-
     -- a text has one code that ends it and follows what is before it
     pub one-last : (a b : List ℕ) (c d : ℕ) → a ++ D .bytes c ≡ b ++ D .bytes d → stage D q (D .bytes c) ≡ c ∷ [] → stage D q (D .bytes d) ≡ d ∷ []
         → Follows q (stage D q a) c → Follows q (stage D q b) d → c ≡ d
-    one-last a b c d e oc od fc fd = snoc-inj (stage D q a) (stage D q b) c d (sym (append-code a c oc fc) ∙ ap (stage D q) e ∙ append-code b d od fd)
+    one-last a b c d e oc od fc fd = snoc-last (stage D q a) (stage D q b) c d (sym (append-code a c oc fc) ∙ ap (stage D q) e ∙ append-code b d od fd)
 
     chain-cons : (c : ℕ) (X : List ℕ) → AllApart D q X → stage D q (D .bytes c) ≡ c ∷ [] → Leads q c X → AllApart D q (c ∷ X)
     chain-cons c [] h o f = o

@@ -10,7 +10,7 @@ use Rattle.theory.specs.Dictionary.{Dictionary, spell, AllRows, KnownTex
 use Rattle.theory.specs.Parts.{rowsAt}
 use Rattle.theory.specs.Shortest.{shortest, LongerFirst}
 use Rattle.theory.proofs.PairCheck.{Lawful}
-use Rattle.theory.proofs.RowsAt.{filled, In, rows-known, rows-every}
+use Rattle.theory.proofs.RowsAt.{different, filled, In, rows-known, rows-every}
 use Rattle.theory.proofs.Longest.{rowLength, rest-is, row-begins}
 use Rattle.theory.proofs.ShortestSteps.{behind, chosen, shortest-nil, shortest-cons, chosen-in, chosen-fewest, chosen-longest}
 
@@ -39,7 +39,7 @@ module _ (D : Dictionary) where
 
     first : (t : List ℕ) (d : ℕ) (M : List ℕ) → AllRows D (d ∷ M) → spell D (d ∷ M) ≡ t → First t d M
     first t d M a s = record {
-      row = rows-every D A (length t) t d (spell D M) (a .0) (sym s) (omega (arith, ap length s, length-append (D .bytes d) (spell D M)));
+      row = rows-every D (different D A) (length t) t d (spell D M) (a .0) (sym s) (omega (arith, ap length s, length-append (D .bytes d) (spell D M)));
       rest = rest-is D t d (spell D M) (sym s);
     }
 
@@ -82,7 +82,7 @@ module _ (D : Dictionary) where
       good-step =
           let m = chosen-in D A t k h in
           record {
-            rows = rw e (rows-known D A (length t) t c m, after c .rows);
+            rows = rw e (rows-known D (length t) t c m, after c .rows);
             spells = ap (spell D) e ∙ ap (λ (l : List ℕ). D .bytes c ++ l) (after c .spells) ∙ sym (row-begins D A t c m);
             least = least-step;
             ties = ties-step;

@@ -106,9 +106,9 @@ module _ (D : Dictionary) where
         let h' : 0 < length s = omega (arith, length-drop i t) in
         let m = chosen-in s k' h' in
         record {
-          known = rows-known D A (length s) s (chosen s) m;
+          known = rows-known D (length s) s (chosen s) m;
           filled = filled D A (chosen s);
-          fits = omega (arith, length-drop i t, rows-short D A (length s) s (chosen s) m);
+          fits = omega (arith, length-drop i t, rows-short D (length s) s (chosen s) m);
           codes = shortest-cons s k' h' ∙ ap (λ (l : List ℕ). chosen s ∷ shortest D l) (drop-drop (rowLength D (chosen s)) i t);
         }
 

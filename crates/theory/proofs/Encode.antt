@@ -9,10 +9,10 @@ use Rattle.theory.specs.Lists.{firstOr, lastOr}
 use Rattle.theory.specs.Dictionary.{Dictionary, spell, AllRows, KnownText}
 use Rattle.theory.specs.Merge.{encode}
 use Rattle.theory.specs.Paper.{stage}
-use Rattle.theory.specs.PairCheck.{passes}
+use Rattle.theory.specs.PairCheck.{passes, AllPass}
 use Rattle.theory.proofs.Lists.{nil-cons}
 use Rattle.theory.proofs.Stage as St
-use Rattle.theory.proofs.PairCheck.{Lawful, passes↔pair, itself, stage-rows}
+use Rattle.theory.proofs.PairCheck.{Lawful, passes↔pair, itself, stage-rows, stage-checked, checked-unique}
 use Rattle.theory.proofs.Merge.{merge-is-stage}
 use Rattle.theory.proofs.Neighbours.{Follows, Leads, append-code, prepend-code}
 
@@ -22,6 +22,13 @@ module _ (D : Dictionary) (A : Lawful D) where
 
   pub encode-rows : (t : List ℕ) → KnownText D t → AllRows D (encode D t)
   encode-rows t k = rw (merge-is-stage D A t) (stage-rows D A (D .count) t k)
+
+  -- all neighbours of its codes pass, and no other code list of that kind spells the text
+  pub encode-passes : (t : List ℕ) → KnownText D t → AllPass D (encode D t)
+  encode-passes t k = rw (merge-is-stage D A t) (stage-checked D A t k)
+
+  pub encode-only : (L : List ℕ) → AllPass D L → encode D (spell D L) ≡ L
+  encode-only L p = merge-is-stage D A (spell D L) ∙ checked-unique D A L p
 
   pub encode-nil : encode D [] ≡ []
   encode-nil = merge-is-stage D A [] ∙ St.stage-nil D (A .laws) (D .count)

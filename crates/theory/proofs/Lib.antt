@@ -26,6 +26,11 @@ pub mod ShortestSteps
 pub mod Shortest
 pub mod Greedy
 pub mod Decoding
+-- Backtracking and the count with a limit
+pub mod Places
+pub mod Candidates
+pub mod Backtracking
+pub mod CountLimit
 -- The tree of prefixes, and intervals
 pub mod Tree
 pub mod Interval

@@ -13,10 +13,9 @@ use Rattle.theory.specs.Merge.{encode}
 use Rattle.theory.specs.PairCheck.{AllPass}
 use Rattle.theory.specs.Typing.{Side, append, prepend, inOrder, endCode, passesBeside}
 use Rattle.theory.proofs.Lists.{nil-cons, lastOr-append, snoc-view}
-use Rattle.theory.proofs.PairCheck.{Lawful, stage-checked}
-use Rattle.theory.proofs.Merge.{merge-is-stage}
+use Rattle.theory.proofs.PairCheck.{Lawful}
 use Rattle.theory.proofs.Neighbours.{spell-snoc}
-use Rattle.theory.proofs.Encode.{encode-spells, encode-rows, encode-nil, encode-parts, encode-append, encode-prepend}
+use Rattle.theory.proofs.Encode.{encode-passes, encode-spells, encode-rows, encode-nil, encode-parts, encode-append, encode-prepend}
 
 -- a code list with one more code where bytes are typed
 abbrev pub withCode : Side → List ℕ → ℕ → List ℕ
@@ -170,7 +169,7 @@ module _ (D : Dictionary) where
             e = r .2
 
             checked : AllPass D (withCode side Y c)
-            checked = subst (λ (L : List ℕ). AllPass D L) (sym (merge-is-stage D A t) ∙ e) (stage-checked D A t (known-inOrder side s k))
+            checked = subst (λ (L : List ℕ). AllPass D L) e (encode-passes D A t (known-inOrder side s k))
 
             codes-before : encode D (inOrder side (inOrder side (spell D Y))) ≡ Y
             codes-before = ap (encode D) (inOrder-twice side (spell D Y)) ∙ parts-with side t Y c e

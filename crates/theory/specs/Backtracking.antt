@@ -70,7 +70,7 @@ module _ (D : Dictionary) where
     run zero s = s
     run (suc k) s = elim (finished s) [ true ↦ s | false ↦ run k (step s) ]
 
-    -- the codes by backtracking: a text of m bytes takes fewer than 2 m steps
+    -- the codes by backtracking: a text of m bytes takes at most 2 m steps
     unfoldable pub backtrack : List ℕ
     backtrack = codes (run (2 * length t) start .stack)
 

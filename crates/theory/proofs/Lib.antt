@@ -11,6 +11,7 @@ pub mod Encode
 -- The rows that begin a text; parts; readings
 pub mod RowsAt
 pub mod Accepted
+pub mod AcceptedTest
 pub mod Readings
 pub mod PairSteps
 -- Table and typing

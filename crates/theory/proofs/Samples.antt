@@ -6,18 +6,28 @@ use Prim.Native.Nat.{ℕ}
 use lib.ListN.{getD}
 use Rattle.theory.specs.Dictionary.{Dictionary}
 use Rattle.theory.specs.Merge.{encode}
-use Rattle.theory.specs.Parts.{Parts, dictionary, partsBelow, longestAt}
+use Rattle.theory.specs.Parts.{Parts, Accepted, dictionary, partsBelow, longestAt}
 use Rattle.theory.specs.Shortest.{shortest, greedy}
 use Rattle.theory.specs.Typing.{countAt}
 use Rattle.theory.specs.Tree.{intervalCount}
 use Rattle.theory.specs.Backtracking.{backtrack}
 use Rattle.theory.specs.Table.{tableCodes, lastCodes, lastCode}
+use Rattle.theory.proofs.AcceptedTest.{isAccepted, accepted-by-test}
 use Rattle.theory.specs.Samples.{E, F, G, Case, cases, abcd}
 
 -- P1 to P10
 pub samples : map (λ (c : Case). c .given) cases ≡ map (λ (c : Case). c .said) cases
 unfolding cases E F encode dictionary partsBelow shortest greedy longestAt countAt intervalCount
 samples = refl
+
+-- E and F are accepted, so the theorems on accepted rows speak of something
+pub E-accepted : Accepted E
+unfolding E isAccepted partsBelow
+E-accepted = accepted-by-test E refl
+
+pub F-accepted : Accepted F
+unfolding F isAccepted partsBelow
+F-accepted = accepted-by-test F refl
 
 -- G has no parts for row 0
 pub G-refused : getD (partsBelow G 259) 0 none ≡ none

@@ -1,0 +1,40 @@
+-- `clear_bit` meets its contract: one word is now without the bit, or the bit was not set (proofs/Sets.antt, proofs/Without.antt). Assumes nothing.
+use native.Mathlib.Omega.{arith}
+use borrow.Author.Needs.{needs}
+use Rattle.bitfield.proofs.Without.{without-clear}
+use Rattle.bitfield.proofs.Sets.{cleared-set, set-beyond}
+use Rattle.bitfield.proofs.clear_bit.Statement.{statement}
+use Rattle.bitfield.proofs.clear_bit.Tie as tie
+
+mul-word-without : tie.Need-mul-word-without
+mul-word-without c = search needs
+
+element-copy-out-word-without : tie.Need-element-copy-out-word-without
+element-copy-out-word-without c = search needs
+
+word-without-requires : tie.Need-word-without-requires
+word-without-requires c κs = search needs
+
+mul-words : tie.Need-mul-words
+mul-words c = search needs
+
+element-write-words : tie.Need-element-write-words
+element-write-words c = search needs
+
+returns : tie.Need-returns
+returns c = cleared-set _ _ _ (omega arith) (c .word-without .ensures)
+
+returns-2 : tie.Need-returns-2
+returns-2 c = without-clear _ _ (set-beyond _ _ (omega arith))
+
+pub clear-bit-spec : {M : Type 1} → statement M
+clear-bit-spec =
+    tie.close
+    (tie.spec
+    mul-word-without
+    element-copy-out-word-without
+    word-without-requires
+    mul-words
+    element-write-words
+    returns
+    returns-2)

@@ -5,7 +5,6 @@ use mathlib.Core.List.{List, [], _∷_, _++_}
 use mathlib.Core.Bool.{true, false}
 use Prim.Native.Nat.{ℕ, _+_, _-_, _*_, _≤_, _<_}
 use lib.ListN.{length, getD, take, drop}
-
 use Rattle.theory.specs.Dictionary.{Dictionary, Octets, spell, AllRows}
 use Rattle.theory.specs.Merge.{encode}
 use Rattle.theory.specs.Paper.{paperCodes}
@@ -26,7 +25,7 @@ use Rattle.theory.proofs.Longest.{rows-front}
 use Rattle.theory.proofs.Accepted.{lawful, known-text, check-before}
 use Rattle.theory.proofs.Readings.{readings-agree}
 use Rattle.theory.proofs.Backtracking.{backtrack-is, never-empty, run-finished}
-use Rattle.theory.proofs.CountLimit.{count-is, count-over}
+use Rattle.theory.proofs.CountLimit.{PassedAfter, count-is, count-over, over-only, passed-over}
 use Rattle.theory.proofs.Sides.{Ends, end-code, one-end, one-more-code}
 use Rattle.theory.proofs.Typing.{TrueAt, forms-true, trues-form}
 use Rattle.theory.proofs.Table.{tableCodes-encode}
@@ -104,6 +103,14 @@ module _ (rows : List (List ℕ)) (A : Accepted rows) where
 
   pub limited-count-over : (t : List ℕ) → Octets t → (limit : ℕ) → limit < length (encode D t) → countTillLimit D t limit ≡ over
   limited-count-over t o limit = count-over D t limit L (known-text rows A t o)
+
+  -- "over" is given exactly if the final count passes the limit, or the running count passed limit + 10 after a step that did not finish the text
+  pub limited-count-over-only : (t : List ℕ) → Octets t → (limit : ℕ) → countTillLimit D t limit ≡ over
+      → (limit < length (encode D t)) ⊎ ((j : ℕ) × PassedAfter D t limit j (start D t))
+  limited-count-over-only t o limit = over-only D t limit L (known-text rows A t o)
+
+  pub limited-count-passed : (t : List ℕ) → Octets t → (limit j : ℕ) → PassedAfter D t limit j (start D t) → countTillLimit D t limit ≡ over
+  limited-count-passed t o limit = passed-over D t limit L (known-text rows A t o)
 
   -- 5. The prefix chain from the longest row at a place lists exactly the rows that begin there, longest first
   pub chain-starts-with-the-longest : (t : List ℕ) → Octets t → 0 < length t → rowsAt D t ≡ longestAt D t ∷ prefixes D (longestAt D t)

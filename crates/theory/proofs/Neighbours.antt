@@ -7,7 +7,7 @@ use Prim.Native.Nat.{ℕ, zero, suc, _+_, _≤_, _<_}
 use native.Mathlib.Omega.{arith}
 use lib.ListN.{length, length-append}
 use lib.Dec.{ltb}
-use Rattle.theory.proofs.Lists.{snoc-last, cons-head, cons-tail, nil-cons, true-false, lastOr-append, lt-or-ge, bool-cases}
+use Rattle.theory.proofs.Lists.{cons-head, cons-tail, nil-cons, true-false, lastOr-append, lt-or-ge, bool-cases}
 use Rattle.theory.specs.Lists.{lastOr}
 use Rattle.theory.specs.Dictionary.{Dictionary, spell}
 use Rattle.theory.proofs.Stage.{Laws, listed-is, StayApart, AllApart}
@@ -31,11 +31,6 @@ module _ (D : Dictionary) where
   chain-snoc q (x ∷ []) c h o f = (f, o)
   chain-snoc q (x ∷ y ∷ X) c h o f = (h .0, chain-snoc q (y ∷ X) c (h .1) o f)
 
-  chain-unsnoc : (q : ℕ) (X : List ℕ) (c : ℕ) → AllApart D q (X ++ c ∷ []) → Follows q X c
-  chain-unsnoc q [] c h = tt
-  chain-unsnoc q (x ∷ []) c h = h .0
-  chain-unsnoc q (x ∷ y ∷ X) c h = chain-unsnoc q (y ∷ X) c (h .1)
-
   pub spell-snoc : (X : List ℕ) (c : ℕ) → spell D (X ++ c ∷ []) ≡ spell D X ++ D .bytes c
   spell-snoc X c = St.spell-append D X (c ∷ []) ∙ ap (λ (l : List ℕ). spell D X ++ l) (append-nil (D .bytes c))
 
@@ -46,29 +41,6 @@ module _ (D : Dictionary) where
         ap (stage D q) (ap (λ (l : List ℕ). l ++ D .bytes c) (sym (St.spell-stage D L q a)) ∙ sym (spell-snoc (stage D q a) c))
         ∙ St.unique D L q (stage D q a ++ c ∷ []) (chain-snoc q (stage D q a) c (St.exists D L q a) o f)
 
-    -- and every last code is one
-    pub record Last (t X : List ℕ) (c : ℕ) : Type 0 where
-      pub text : t ≡ spell D X ++ D .bytes c
-      pub before : stage D q (spell D X) ≡ X
-      pub own : stage D q (D .bytes c) ≡ c ∷ []
-      pub follows : Follows q X c
-
-    pub last-code : (t X : List ℕ) (c : ℕ) → stage D q t ≡ X ++ c ∷ [] → Last t X c
-    last-code t X c e =
-        let p = St.project D L q t X (c ∷ []) e in
-        let t' : t ≡ spell D (X ++ c ∷ []) = sym (St.spell-stage D L q t) ∙ ap (spell D) e in
-        record {
-          text = t' ∙ spell-snoc X c;
-          before = p .0;
-          own = rw append-nil at (p .1);
-          follows = chain-unsnoc q X c (St.neighbours D L q (X ++ c ∷ []) (ap (stage D q) (sym t') ∙ e));
-        }
-
-    -- a text has one code that ends it and follows what is before it
-    pub one-last : (a b : List ℕ) (c d : ℕ) → a ++ D .bytes c ≡ b ++ D .bytes d → stage D q (D .bytes c) ≡ c ∷ [] → stage D q (D .bytes d) ≡ d ∷ []
-        → Follows q (stage D q a) c → Follows q (stage D q b) d → c ≡ d
-    one-last a b c d e oc od fc fd = snoc-last (stage D q a) (stage D q b) c d (sym (append-code a c oc fc) ∙ ap (stage D q) e ∙ append-code b d od fd)
-
     chain-cons : (c : ℕ) (X : List ℕ) → AllApart D q X → stage D q (D .bytes c) ≡ c ∷ [] → Leads q c X → AllApart D q (c ∷ X)
     chain-cons c [] h o f = o
     chain-cons c (x ∷ X) h o f = (f, h)
@@ -78,10 +50,6 @@ module _ (D : Dictionary) where
     prepend-code c a o f =
         ap (λ (l : List ℕ). stage D q (D .bytes c ++ l)) (sym (St.spell-stage D L q a))
         ∙ St.unique D L q (c ∷ stage D q a) (chain-cons c (stage D q a) (St.exists D L q a) o f)
-
-    -- the codes before a cut, and after it, do not depend on the other side
-    pub prefix-codes : (t X Y : List ℕ) → stage D q t ≡ X ++ Y → (stage D q (spell D X) ≡ X) × (stage D q (spell D Y) ≡ Y)
-    prefix-codes t X Y e = St.project D L q t X Y e
 
   module _ (A : Lawful D) where
     -- two parts that pass are the parts

@@ -1,0 +1,91 @@
+// Why a call is refused, for all calls, and the answer of build.
+ghost use mathlib.Core.Path.{_≡_};
+ghost use Rattle.causes.specs.Causes.{refusalOf, buildAnswerOf};
+
+pub enum Cause {
+    FactorZero,
+    // The offset of the first bad record, 65,536 if the file is too long.
+    BadRecord(usize),
+    // The count of rows.
+    RowCount(usize),
+    // The lowest byte value without a row.
+    MissingByte(u8),
+    // The lowest row with the hash of an earlier row.
+    SameHash(u32),
+    // The lowest longer row without parts.
+    NoParts(u32),
+    TooShort,
+    OutOfForm,
+    TooLong,
+    // The index of the first code not below n.
+    UnknownCode(usize),
+    BadInterval,
+    // The current length.
+    Full(usize),
+}
+
+pub enum BuildAnswer {
+    // The count of rows.
+    Rows(usize),
+    Refused(Cause),
+}
+
+// The number of a cause.
+pub fn cause_number(cause: Cause) -> u32
+    ensures { λ r. ⌜ r ≡ refusalOf cause .number ⌝ }
+{
+    match cause {
+        Cause::FactorZero => 1,
+        Cause::BadRecord(_) => 2,
+        Cause::RowCount(_) => 3,
+        Cause::MissingByte(_) => 4,
+        Cause::SameHash(_) => 5,
+        Cause::NoParts(_) => 6,
+        Cause::TooShort => 7,
+        Cause::OutOfForm => 8,
+        Cause::TooLong => 9,
+        Cause::UnknownCode(_) => 10,
+        Cause::BadInterval => 11,
+        Cause::Full(_) => 12,
+    }
+}
+
+// The returned place of a cause.
+pub fn cause_place(cause: Cause) -> u64
+    ensures { λ r. ⌜ r ≡ refusalOf cause .place ⌝ }
+{
+    match cause {
+        Cause::FactorZero => 0,
+        Cause::BadRecord(offset) => offset as u64,
+        Cause::RowCount(n) => n as u64,
+        Cause::MissingByte(byte) => byte as u64,
+        Cause::SameHash(row) => row as u64,
+        Cause::NoParts(row) => row as u64,
+        Cause::TooShort => 0,
+        Cause::OutOfForm => 0,
+        Cause::TooLong => 0,
+        Cause::UnknownCode(index) => index as u64,
+        Cause::BadInterval => 0,
+        Cause::Full(length) => length as u64,
+    }
+}
+
+// The number of an answer of build: 0 if it is no refusal.
+pub fn build_answer_number(answer: BuildAnswer) -> u32
+    ensures { λ r. ⌜ r ≡ buildAnswerOf answer .number ⌝ }
+{
+    match answer {
+        BuildAnswer::Rows(_) => 0,
+        BuildAnswer::Refused(cause) => cause_number(cause),
+    }
+}
+
+// The place of an answer of build: the count of rows if it is no refusal.
+pub fn build_answer_place(answer: BuildAnswer) -> u64
+    ensures { λ r. ⌜ r ≡ buildAnswerOf answer .place ⌝ }
+{
+    match answer {
+        BuildAnswer::Rows(n) => n as u64,
+        BuildAnswer::Refused(cause) => cause_place(cause),
+    }
+}

@@ -1,0 +1,9 @@
+// What an accepting build leaves is a definition, `Built`, in specs/; proofs/ says what it gives to the functions over the tables.
+ghost use mathlib.Core.Path.{_≡_};
+
+// The size of the search area.
+pub fn area_size() -> usize
+    ensures { λ r. ⌜ r ≡ 16384 ⌝ }
+{
+    16384
+}

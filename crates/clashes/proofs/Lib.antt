@@ -1,0 +1,4 @@
+pub mod Lowest
+pub mod Laws
+pub mod Chains
+pub mod Indexed

@@ -1,0 +1,34 @@
+-- A cleared half lists no row. Assumes nothing.
+use mathlib.Core.Path.{_≡_, _∙_}
+use mathlib.Core.List.{List, []}
+use mathlib.Core.Bool.{Bool}
+use Prim.Native.Nat.{ℕ, _≤_, _<_}
+use native.Mathlib.Omega.{arith}
+use lib.ListN.{length, getD, drop, replicate, length-append, length-drop, length-replicate, getD-replicate, List·getD-append}
+use Rattle.placed_rows.specs.Rows.{none}
+use Rattle.forest.specs.Words.{Mem, In, Indexed}
+use Rattle.forest.specs.Growth.{cleared}
+use Rattle.forest.proofs.Walking.{walk-out}
+
+pub length-cleared : (half : List ℕ) → 4096 ≤ length half → length (cleared half) ≡ length half
+unfolding cleared
+length-cleared half h = length-append (replicate 4096 none) (drop 4096 half) ∙ omega (arith, length-replicate 4096 none, length-drop 4096 half)
+
+head-none : (half : List ℕ) (h : ℕ) → h < 4096 → getD (cleared half) h 0 ≡ none
+unfolding cleared
+head-none half h l = List·getD-append (replicate 4096 none) (drop 4096 half) 0 h (omega (arith, length-replicate 4096 none)) ∙ getD-replicate 4096 h none 0 l
+
+pub cleared-none : (R : ℕ → List ℕ) (n : ℕ) (half : List ℕ) (S : ℕ → Bool) → R none ≡ [] → n ≤ 4096 → ((d : ℕ) → In S d → ⊥) → Indexed R n (cleared half) S
+cleared-none R n half S root N void = record {
+  par = λ d. none;
+  forest = record {
+    root = root;
+    distinct = λ c d s. absurd (void c s);
+    prefix = λ d s. absurd (void d s);
+  };
+  few = N;
+  below = λ d s. absurd (void d s);
+  bytes = λ d s. absurd (void d s);
+  listed = λ d s. absurd (void d s);
+  only = λ h w l m. absurd (let z : Mem w [] = rw (head-none half h l, walk-out n (cleared half) n none (omega arith)) at m in z);
+}

@@ -1,0 +1,10 @@
+pub mod NoChild
+pub mod Packing
+pub mod Walking
+pub mod Fitting
+pub mod Searching
+pub mod Descending
+pub mod Joining
+pub mod Pushing
+pub mod Inserting
+pub mod Emptying

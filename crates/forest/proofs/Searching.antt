@@ -1,0 +1,176 @@
+-- The walk along a bucket finds the child. Assumes nothing.
+use mathlib.Core.Path.{_≡_, refl, sym, ap, _∙_}
+use mathlib.Core.List.{List, [], _++_, append-assoc}
+use mathlib.Core.Logic.{_⊎_, inl, inr, ⊎-elim}
+use mathlib.Core.Bool.{Bool, true, false}
+use Prim.Native.Nat.{ℕ, _+_, _-_, _≤_, _<_}
+use native.Mathlib.Omega.{arith}
+use lib.ListN.{length, length-append, length-drop, getD, drop, List·getD-append}
+use lib.Seq.{getD-drop, drop-append-seam}
+use Rattle.placed_rows.specs.Rows.{none}
+use Rattle.placed_rows.specs.Texts.{Begins, begins}
+use Rattle.placed_rows.proofs.Beginning.{begins-split, begins-append, begins-length, beyond, cancel}
+use Rattle.placed_rows.specs.Longest.{Known}
+use Rattle.forest.specs.Words.{row-of, code, len-of, bucketOf, walk, Mem, In, count, byteOf, home, wordOf, Indexed}
+use Rattle.forest.specs.Lookups.{WordOf, Fits, Child, At, ChildIs}
+use Rattle.forest.proofs.NoChild.{filled}
+use Rattle.forest.proofs.Packing.{word-row, word-len, bucket-small, bucket-byte, bucket-code, code-same}
+use Rattle.forest.proofs.Walking.{walk-left, walk-more, count-le}
+
+drop-to : (u t v : List ℕ) (k : ℕ) → t ≡ u ++ v → k ≡ length u → drop k t ≡ v
+drop-to u t v k e h = rw (h, e) (drop-append-seam u v)
+
+begins-to : (a t u v : List ℕ) → a ≡ u → t ≡ u ++ v → begins a t ≡ true
+begins-to a t u v e f = rw (e, f) (begins-append u v)
+
+-- what a child has beyond its prefix
+pub record Tail (R : ℕ → List ℕ) (p : ℕ) (rest : List ℕ) (d : ℕ) : Type 0 where
+  pub longer : length (R p) < length (R d)
+  pub on : begins (drop (length (R p)) (R d)) rest ≡ true
+  pub byte : getD (R d) (length (R p)) 0 ≡ getD rest 0 0
+  pub split : R p ++ rest ≡ R d ++ drop (length (R d) - length (R p)) rest
+
+module _ (R : ℕ → List ℕ) (n : ℕ) (half : List ℕ) (S : ℕ → Bool) (I : Indexed R n half S) (p : ℕ) (rest : List ℕ) where
+  module _ (d : ℕ) (g : Child R (I .par) (In S) p rest d) where
+    start : Begins (R p) (R d)
+    start = rw (g .under) at (I .forest .prefix d (g .in-K) .begins)
+
+    rest-is : rest ≡ start .rest ++ g .on .rest
+    rest-is = cancel (R p) rest (start .rest ++ g .on .rest)
+        (g .on .split ∙ ap (λ (l : List ℕ). l ++ g .on .rest) (start .split) ∙ append-assoc (R p) (start .rest) (g .on .rest))
+
+    longer : length (R p) < length (R d)
+    longer = rw (g .under) at (I .forest .prefix d (g .in-K) .shorter)
+
+    more : length (R d) ≡ length (R p) + length (start .rest)
+    more = ap length (start .split) ∙ length-append (R p) (start .rest)
+
+    first : getD (R d) (length (R p)) 0 ≡ getD rest 0 0
+    first =
+        let m = more in
+        let l = longer in
+        let a : length (R p) + 0 ≡ length (R p) = omega arith in
+        let f : getD (drop (length (R p)) (R d)) 0 0 ≡ getD (R d) (length (R p)) 0 = getD-drop (length (R p)) (R d) 0 0 ∙ ap (λ (i : ℕ). getD (R d) i 0) a in
+        sym f ∙ ap (λ (l : List ℕ). getD l 0 0) (beyond (R p) (R d) start)
+        ∙ sym (ap (λ (l : List ℕ). getD l 0 0) rest-is ∙ List·getD-append (start .rest) (g .on .rest) 0 0 (omega arith))
+
+    split : R p ++ rest ≡ R d ++ drop (length (R d) - length (R p)) rest
+    split =
+        let m = more in
+        let k : length (R d) - length (R p) ≡ length (start .rest) = omega arith in
+        let z : drop (length (R d) - length (R p)) rest ≡ g .on .rest = drop-to (start .rest) rest (g .on .rest) (length (R d) - length (R p)) rest-is k in
+        ap (λ (l : List ℕ). R p ++ l) rest-is ∙ sym (append-assoc (R p) (start .rest) (g .on .rest)) ∙ (λ i. sym (start .split) i ++ sym z i)
+
+    pub tail : Tail R p rest d
+    tail = record {
+      longer = longer;
+      on = begins-to (drop (length (R p)) (R d)) rest (start .rest) (g .on .rest) (beyond (R p) (R d) start) rest-is;
+      byte = first;
+      split = split;
+    }
+
+  -- conversely
+  pub is-child : (d : ℕ) → In S d → I .par d ≡ p → begins (drop (length (R p)) (R d)) rest ≡ true → Child R (I .par) (In S) p rest d
+  is-child d s e o =
+      let x : Begins (R p) (R d) = rw e at (I .forest .prefix d s .begins) in
+      let y = begins-split (x .rest) rest (rw (beyond (R p) (R d) x) at o) in
+      record {
+        in-K = s;
+        under = e;
+        on = record {
+          rest = y .rest;
+          split = ap (λ (l : List ℕ). R p ++ l) (y .split) ∙ sym (append-assoc (R p) (x .rest) (y .rest)) ∙ ap (λ (l : List ℕ). l ++ y .rest) (sym (x .split));
+        };
+      }
+
+  small : (q : ℕ) → Known (In S) q → (q ≡ none) ⊎ (q < 4096)
+  small q (inl e) = inl e
+  small q (inr s) = inr (let z = I .below q s in let f = I .few in omega arith)
+
+  pub same-prefix : Known (In S) p → (d : ℕ) → In S d → code (I .par d) ≡ code p → I .par d ≡ p
+  same-prefix k d s e = code-same (I .par d) p (small (I .par d) (I .forest .prefix d s .known)) (small p k) e
+
+  -- the byte that the bucket tells
+  pub told : Known (In S) p → getD rest 0 0 < 256 → (d : ℕ) → In S d → home R (I .par) d ≡ bucketOf p (getD rest 0 0) → code (I .par d) ≡ code p
+      → getD (R d) (length (R p)) 0 ≡ getD rest 0 0
+  told k b d s h e =
+      let q = same-prefix k d s e in
+      let z = bucket-byte p (byteOf R (I .par) d) (getD rest 0 0) (I .bytes d s) b (sym (bucket-code (I .par d) p (byteOf R (I .par) d) e) ∙ h) in
+      ap (λ (i : ℕ). getD (R d) (length (R i)) 0) (sym q) ∙ z
+
+-- the walk has come to the word x with k steps left: the words that are left stand in the bucket, and a child is among them
+pub record Search (R : ℕ → List ℕ) (n : ℕ) (half : List ℕ) (p len : ℕ) (rest : List ℕ) (x k : ℕ) : Type 0 where
+  pub kept : (w : ℕ) → Mem w (walk n half k x) → Mem w (walk n half n (getD half (bucketOf p (getD rest 0 0)) 0))
+  pub left : (S : ℕ → Bool) (a : At R n half S p len) (d : ℕ) → Child R (a .index .par) (In S) p rest d → Mem (wordOf R (a .index .par) d) (walk n half k x)
+
+module _ (R : ℕ → List ℕ) (n : ℕ) (half : List ℕ) (p len : ℕ) (rest : List ℕ) where
+  pub search-start : (h : ℕ) → h ≡ bucketOf p (getD rest 0 0) → Search R n half p len rest (getD half h 0) n
+  search-start h e = rw e (record { kept = λ w m. m; left = begin })
+    where
+      begin : (S : ℕ → Bool) (a : At R n half S p len) (d : ℕ) → Child R (a .index .par) (In S) p rest d → Mem (wordOf R (a .index .par) d) (walk n half n (getD half (bucketOf p (getD rest 0 0)) 0))
+      begin S a d g =
+          let I = a .index in
+          let b : byteOf R (I .par) d ≡ getD rest 0 0 = ap (λ (i : ℕ). getD (R d) (length (R i)) 0) (g .under) ∙ tail R n half S I p rest d g .byte in
+          let h : home R (I .par) d ≡ bucketOf p (getD rest 0 0) = λ i. bucketOf (g .under i) (b i) in
+          walk-more n half (count S n) n (getD half (bucketOf p (getD rest 0 0)) 0) (wordOf R (I .par) d) (count-le S n) (rw h at (I .listed d (g .in-K)))
+
+  -- a word of the bucket, as the test takes it
+  tested : (S : ℕ → Bool) (a : At R n half S p len) (x d : ℕ) → In S d → x ≡ wordOf R (a .index .par) d
+      → (code (a .index .par d) ≡ code p → getD (R d) (length (R p)) 0 ≡ getD rest 0 0) → WordOf R n p len rest x d (a .index .par d)
+  tested S a x d s e t = record {
+    below = a .index .below d s;
+    filled = filled R (a .index .par) (In S) (a .index .forest) d s;
+    is = e;
+    told = λ c. rw (a .size) (t c);
+  }
+
+  pub search-step : (x i k : ℕ) → i ≡ row-of x → 0 < k → i < n → Fits R n p len rest x false → Search R n half p len rest x k
+      → Search R n half p len rest (getD half (4096 + i) 0) (k - 1)
+  search-step x i k ix h l miss s = rw ix (record {
+    kept = λ w m. s .kept w (rw (walk-left n half k x h (omega arith)) (inr m));
+    left = λ S a d g. ⊎-elim (λ z. absurd (no S a d g z)) (λ z. z) (rw (walk-left n half k x h (omega arith)) at (s .left S a d g));
+  })
+    where
+      no : (S : ℕ → Bool) (a : At R n half S p len) (d : ℕ) → Child R (a .index .par) (In S) p rest d → wordOf R (a .index .par) d ≡ x → ⊥
+      no S a d g z =
+          let t = tail R n half S (a .index) p rest d g in
+          miss .no d (a .index .par d) (tested S a x d (g .in-K) (sym z) (λ _. t .byte)) refl
+          (record { under = ap (λ (q : ℕ). code q) (g .under); longer = let v = t .longer in let y = a .size in omega arith; on = rw (a .size) (t .on) })
+
+  pub search-hit : (x i k l : ℕ) → i ≡ row-of x → 0 < k → i < n → n ≤ 4096 → l ≡ len-of x → l < 65 → getD rest 0 0 < 256 → Fits R n p len rest x true
+      → Search R n half p len rest x k → ChildIs R n half p len rest (row-of x) l
+  search-hit x i k l ix h b N lx l65 byte hit s = record {
+    bound = inr (record {
+      below = omega arith;
+      longer = let z = hit .longer refl in omega arith;
+      fits = let z = hit .room refl in omega arith;
+      short = omega arith;
+    });
+    sound = λ _ S a. found S a;
+    complete = λ z. absurd (omega arith);
+  }
+    where
+      found : (S : ℕ → Bool) (a : At R n half S p len) → Child R (a .index .par) (In S) p rest (row-of x) × (l ≡ length (R (row-of x)))
+      found S a =
+          let I = a .index in
+          let m = I .only (bucketOf p (getD rest 0 0)) x (bucket-small p (getD rest 0 0)) (s .kept x (rw (walk-left n half k x h (omega arith)) (inl refl))) in
+          let d = m .row in
+          let W = tested S a x d (m .in-S) (m .is) (told R n half S I p rest (a .known) byte d (m .in-S) (m .home)) in
+          let y = hit .yes d (I .par d) W refl in
+          let z = W .below in
+          let rd : row-of x ≡ d = ap (λ (v : ℕ). row-of v) (m .is) ∙ word-row d (I .par d) (length (R d)) (omega arith) in
+          let ld : l ≡ length (R d) = lx ∙ ap (λ (v : ℕ). len-of v) (m .is) ∙ word-len d (I .par d) (length (R d)) (omega arith) (W .filled) in
+          rw rd (is-child R n half S I p rest d (m .in-S) (same-prefix R n half S I p rest (a .known) d (m .in-S) (y .under)) (rw (a .size) at (y .on)), ld)
+
+  nothing : (l : ℕ) → ((S : ℕ → Bool) (a : At R n half S p len) (d : ℕ) → Child R (a .index .par) (In S) p rest d → ⊥) → ChildIs R n half p len rest none l
+  nothing l h = record { bound = inl refl; sound = λ z. absurd (z refl); complete = λ _. h }
+
+  pub search-over : (x k l : ℕ) → walk n half k x ≡ [] → Search R n half p len rest x k → ChildIs R n half p len rest none l
+  search-over x k l e s = nothing l (λ S a d g. rw e at (s .left S a d g))
+
+  pub search-empty : (l : ℕ) → length rest ≡ 0 → ChildIs R n half p len rest none l
+  search-empty l e = nothing l (λ S a d g.
+      let t = tail R n half S (a .index) p rest d g in
+      let v = t .longer in
+      let z = begins-length (drop (length (R p)) (R d)) rest (begins-split (drop (length (R p)) (R d)) rest (t .on)) in
+      omega (arith, length-drop (length (R p)) (R d)))

@@ -1,0 +1,78 @@
+-- Rests on the laws of the test, one for each way in which it ends. Assumes nothing.
+use mathlib.Core.Path.{sym, ap, _∙_}
+use mathlib.Core.List.{List}
+use Prim.Native.Nat.{ℕ}
+use native.Mathlib.Omega.{arith}
+use lib.ListN.{length, drop}
+use borrow.Author.Needs.{needs}
+use Rattle.placed_rows.proofs.Facing.{facing-length, rowFacing-length, rowFacing-is}
+use Rattle.placed_rows.specs.Texts.{begins, facing}
+use Rattle.forest.proofs.Fitting.{fits-other, fits-short, fits-one, fits-unlike, fits-compared}
+use Rattle.forest.proofs.fits.Statement.{statement}
+use Rattle.forest.proofs.fits.Tie as tie
+
+returns : tie.Need-returns
+returns c = fits-other _ _ _ _ _ _ (c .before .before .before .before .pre .0 .few) (c .if1 .taken)
+
+len-of-requires : tie.Need-len-of-requires
+len-of-requires c κs = search needs
+
+returns-2 : tie.Need-returns-2
+returns-2 c = fits-short _ _ _ _ _ _ (c .before .before .before .before .before .before .pre .0 .few) (omega (arith, c .before .len-of .ensures .is))
+
+sub-if3 : tie.Need-sub-if3
+sub-if3 c = search needs
+
+returns-3 : tie.Need-returns-3
+returns-3 c =
+    let s = c .before .before .before .before .before .before .before in
+    fits-one _ _ _ _ _ _ (s .pre .0 .few) (c .before .before .before .if1 .left) (omega (arith, c .before .before .len-of .ensures .is)) (omega (arith, s .pre .1 .1, facing-length (s .args .back) (s .args .rest .now)))
+
+row-of-requires : tie.Need-row-of-requires
+row-of-requires c κs = search needs
+
+bytes-of-requires : tie.Need-bytes-of-requires
+bytes-of-requires c κs = search needs
+
+returns-4 : tie.Need-returns-4
+returns-4 c =
+    let s = c .before .before .before .before .before .before .before .before .before .before in
+    let a = s .args in
+    let i = c .before .before .row-of .result in
+    let l = rowFacing-length (a .back) (a .file .now) (a .places .now) (a .n) i in
+    fits-unlike _ _ _ _ _ _ (s .pre .0 .few) i (c .before .before .before .before .before .len-of .result) (c .before .before .row-of .ensures .is) (c .before .before .before .before .before .len-of .ensures .is)
+    (λ e. c .if4 .taken (ap length (c .before .bytes-of .ensures) ∙ sym l ∙ e))
+
+beyond-requires : tie.Need-beyond-requires
+beyond-requires c κs = search needs
+
+begins-facing-requires : tie.Need-begins-facing-requires
+begins-facing-requires c κs = search needs
+
+returns-5 : tie.Need-returns-5
+returns-5 c =
+    let s = c .before .before .before .before .before .before .before .before .before .before .before .before in
+    let a = s .args in
+    let i = c .before .before .before .before .row-of .result in
+    let bytes = c .before .before .before .bytes-of in
+    let l = rowFacing-length (a .back) (a .file .now) (a .places .now) (a .n) i in
+    let is = rowFacing-is (a .back) (a .file .now) (a .places .now) (a .n) i (bytes .result .now) (bytes .ensures) in
+    fits-compared _ _ _ _ _ _ (s .pre .0 .few) (c .begins-facing .result) i (c .before .before .before .before .before .before .before .len-of .result) (c .before .before .before .before .row-of .ensures .is) (c .before .before .before .before .before .before .before .len-of .ensures .is)
+    (l ∙ sym (ap length (bytes .ensures)) ∙ c .before .before .if4 .left) (c .before .before .before .before .before .before .before .before .if1 .left) (omega arith)
+    (c .begins-facing .ensures ∙ ap (λ (t : List ℕ). begins t (facing (a .back) (a .rest .now))) (c .before .beyond .ensures ∙ ap (drop (a .len)) is))
+
+pub fits-spec : {M : Type 1} → statement M
+fits-spec =
+    tie.close
+    (tie.spec
+    returns
+    len-of-requires
+    returns-2
+    sub-if3
+    returns-3
+    row-of-requires
+    bytes-of-requires
+    returns-4
+    beyond-requires
+    begins-facing-requires
+    returns-5)

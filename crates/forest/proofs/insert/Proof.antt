@@ -1,0 +1,80 @@
+-- Rests on the descent, which ends at the prefix of row c, and on the law that a push there keeps the half in order. Assumes nothing.
+use mathlib.Core.Path.{sym, ap, _∙_}
+use native.Mathlib.Omega.{arith}
+use lib.ListN.{length}
+use borrow.Author.Needs.{needs}
+use Rattle.placed_rows.proofs.Facing.{facing-length, rowFacing-is, beyond-length, beyond-first}
+use Rattle.forest.proofs.Inserting.{insert-none, insert-done}
+use Rattle.forest.proofs.insert.Statement.{statement}
+use Rattle.forest.proofs.insert.Tie as tie
+
+bytes-of-requires : tie.Need-bytes-of-requires
+bytes-of-requires c κs = search needs
+
+descend-requires : tie.Need-descend-requires
+descend-requires c κs = search needs
+
+beyond-requires : tie.Need-beyond-requires
+beyond-requires c κs = search needs
+
+first-requires : tie.Need-first-requires
+first-requires c κs =
+    let bytes = c .before .before .before .before .bytes-of .result .now in
+    omega (arith, beyond-length (c .before .before .before .before .before .before .before .before .args .back) bytes (c .beyond .result .now) (c .before .before .descend .result .len) (c .beyond .ensures), c .before .if1 .taken)
+
+bucket-requires : tie.Need-bucket-requires
+bucket-requires c κs = search needs
+
+word-of-requires : tie.Need-word-of-requires
+word-of-requires c κs =
+    let s = c .before .before .before .before .before .before .before .before .before .before .before in
+    let f = s .pre .0 .few in
+    (omega (arith, s .pre .1 .1 .0), (omega (arith, c .before .before .before .before .if1 .taken), omega (arith, ap length (c .before .before .before .before .before .before .before .bytes-of .ensures), s .pre .1 .1 .1)))
+
+push-requires : tie.Need-push-requires
+push-requires c κs = search needs
+
+same-length : tie.Need-same-length
+same-length c = search needs
+
+returns : tie.Need-returns
+returns c =
+    let s = c .before .before .before .before .before .before .before .before .before .before .before .before .before .before .before in
+    let back = s .args .back in
+    let bytes = c .before .before .before .before .before .before .before .before .before .before .before .bytes-of in
+    let m = c .before .before .before .before .before .before .before .before .before .descend in
+    let u = c .before .before .before .before .before .before .before .beyond in
+    let f = c .before .before .before .before .before .before .first in
+    rw (c .before .before .push .ensures)
+    (insert-done _ _ _ _ _ _ _ (s .pre .1 .0) (rowFacing-is back _ _ _ _ _ (bytes .ensures)) (m .ensures) (f .result) _ _ _
+    (f .ensures .is ∙ beyond-first back (bytes .result .now) (u .result .now) (m .result .len) (u .ensures))
+    (f .ensures .below)
+    (c .before .before .before .before .before .bucket .ensures .is)
+    (c .before .before .before .word-of .ensures)
+    (sym (facing-length back (bytes .result .now))))
+
+same-length-2 : tie.Need-same-length-2
+same-length-2 c = search needs
+
+returns-2 : tie.Need-returns-2
+returns-2 c =
+    let s = c .before .before .before .before .before .before .before in
+    let back = s .args .back in
+    let bytes = c .before .before .before .bytes-of in
+    insert-none _ _ _ _ _ _ _ (s .pre .1 .0) (rowFacing-is back _ _ _ _ _ (bytes .ensures)) (c .before .descend .ensures) (omega (arith, c .if1 .left, facing-length back (bytes .result .now)))
+
+pub insert-spec : {M : Type 1} → statement M
+insert-spec =
+    tie.close
+    (tie.spec
+    bytes-of-requires
+    descend-requires
+    beyond-requires
+    first-requires
+    bucket-requires
+    word-of-requires
+    push-requires
+    same-length
+    returns
+    same-length-2
+    returns-2)

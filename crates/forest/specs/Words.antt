@@ -1,0 +1,82 @@
+-- The arrangement of one half of the search area: 4,096 heads of buckets, then 4,096 links. A bucket has the rows of one hash of prefix and next byte.
+-- A head or a link holds a word, which packs a row, its prefix and its length, or none. Assumes nothing.
+use mathlib.Core.Path.{_≡_}
+use mathlib.Core.List.{List, [], _∷_}
+use mathlib.Core.Logic.{_⊎_}
+use mathlib.Core.Bool.{Bool, true, false}
+use Prim.Native.Nat.{ℕ, zero, suc, _+_, _-_, _*_, _/_, _%_, _≤_, _<_}
+use lib.ListN.{length, getD}
+use lib.Dec.{ltb}
+use Rattle.placed_rows.specs.Rows.{none}
+use Rattle.placed_rows.specs.Longest.{Prefix}
+
+-- rows R, of which K says which are meant, with their prefixes par: a forest in which a row stands under its prefix
+pub record Forest (R : ℕ → List ℕ) (par : ℕ → ℕ) (K : ℕ → Type 0) : Type 0 where
+  pub root : R none ≡ []
+  pub distinct : (c d : ℕ) → K c → K d → R c ≡ R d → c ≡ d
+  pub prefix : (d : ℕ) → K d → Prefix R K d (par d)
+
+-- the word of row d, whose prefix is q, of l bytes
+unfoldable pub word : ℕ → ℕ → ℕ → ℕ
+word d q l = d + 8192 * (q % 8192) + 67108864 * (l - 1)
+
+-- what a word has of its row, of the row's prefix and of its length
+abbrev pub row-of : ℕ → ℕ
+row-of w = w % 8192
+
+abbrev pub code : ℕ → ℕ
+code q = q % 8192
+
+abbrev pub code-of : ℕ → ℕ
+code-of w = w / 8192 % 8192
+
+abbrev pub len-of : ℕ → ℕ
+len-of w = w / 67108864 + 1
+
+-- the bucket of the rows whose prefix is q, and whose next byte is b
+unfoldable pub bucketOf : ℕ → ℕ → ℕ
+bucketOf q b = (q % 8192 * 2654435769 / 1048576 + b) % 4096
+
+-- the words from x on, by the links, at most k of them
+unfoldable pub walk : ℕ → List ℕ → ℕ → ℕ → List ℕ
+walk n half zero x = []
+walk n half (suc k) x = elim (ltb (x % 8192) n) [ true ↦ x ∷ walk n half k (getD half (4096 + x % 8192) 0) | false ↦ [] ]
+
+abbrev pub Mem : ℕ → List ℕ → Type 0
+Mem w [] = ⊥
+Mem w (x ∷ l) = (w ≡ x) ⊎ Mem w l
+
+-- a set of rows, and how many of them are below n
+abbrev pub In : (ℕ → Bool) → ℕ → Type 0
+In S d = S d ≡ true
+
+abbrev pub count : (ℕ → Bool) → ℕ → ℕ
+count S zero = 0
+count S (suc n) = elim (S n) [ true ↦ suc (count S n) | false ↦ count S n ]
+
+-- of row d, where par gives the prefixes: its byte beyond its prefix, its bucket and its word
+abbrev pub byteOf : (ℕ → List ℕ) → (ℕ → ℕ) → ℕ → ℕ
+byteOf R par d = getD (R d) (length (R (par d))) 0
+
+abbrev pub home : (ℕ → List ℕ) → (ℕ → ℕ) → ℕ → ℕ
+home R par d = bucketOf (par d) (byteOf R par d)
+
+abbrev pub wordOf : (ℕ → List ℕ) → (ℕ → ℕ) → ℕ → ℕ
+wordOf R par d = word d (par d) (length (R d))
+
+-- w is the word of a row of S that belongs into bucket h
+pub record Entry (R : ℕ → List ℕ) (par : ℕ → ℕ) (S : ℕ → Bool) (h w : ℕ) : Type 0 where
+  pub row : ℕ
+  pub in-S : In S row
+  pub is : w ≡ wordOf R par row
+  pub home : home R par row ≡ h
+
+-- the half lists the rows of S: each stands in its bucket, within as many steps as S has rows, and no other word stands in a bucket
+pub record Indexed (R : ℕ → List ℕ) (n : ℕ) (half : List ℕ) (S : ℕ → Bool) : Type 0 where
+  pub par : ℕ → ℕ
+  pub forest : Forest R par (In S)
+  pub few : n ≤ 4096
+  pub below : (d : ℕ) → In S d → d < n
+  pub bytes : (d : ℕ) → In S d → byteOf R par d < 256
+  pub listed : (d : ℕ) → In S d → Mem (wordOf R par d) (walk n half (count S n) (getD half (home R par d) 0))
+  pub only : (h w : ℕ) → h < 4096 → Mem w (walk n half n (getD half h 0)) → Entry R par S h w

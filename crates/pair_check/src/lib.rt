@@ -1,0 +1,45 @@
+// The public pair check: whether two codes may stand beside each other.
+ghost use Rattle.pair_check.specs.Pair.{PairChecked};
+use causes::Cause;
+use tables::Form;
+
+// The answer of the pair check.
+pub enum PairAnswer {
+    Passes(bool),
+    Refused(Cause),
+}
+
+// Whether token1 and token2 may stand beside each other.
+pub fn is_valid_token_pair(
+    file: &[u8],
+    places: &[u32],
+    lefts: &[u32],
+    rights: &[u32],
+    prefixes: &[u32],
+    area: &[u32],
+    token1: u32,
+    token2: u32,
+) -> PairAnswer
+    ensures { λ r. ⌜ PairChecked (now (file .entry)) (now (places .entry)) (now (lefts .entry)) (now (rights .entry)) (now (prefixes .entry)) (now (area .entry)) token1 token2 r ⌝ }
+{
+    let Form::Rows(n) = tables::tables_in_form(file, places, lefts, rights, prefixes, area) else {
+        return PairAnswer::Refused(Cause::OutOfForm);
+    };
+    if n <= token1 as usize {
+        return PairAnswer::Refused(Cause::UnknownCode(0));
+    }
+    if n <= token2 as usize {
+        return PairAnswer::Refused(Cause::UnknownCode(1));
+    }
+    PairAnswer::Passes(token_pair::is_valid_pair_below(
+        file,
+        places,
+        lefts,
+        rights,
+        area,
+        n,
+        n as u32,
+        token1,
+        token2,
+    ))
+}

@@ -1,0 +1,4 @@
+pub mod Beginning
+pub mod Chains
+pub mod Facing
+pub mod Placing

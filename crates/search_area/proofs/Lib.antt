@@ -1,0 +1,4 @@
+pub mod Halves
+pub mod Looking
+pub mod Listing
+pub mod Collecting

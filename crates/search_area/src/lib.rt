@@ -1,0 +1,91 @@
+// Lookups in the search area. They are safe and end on any contents of the area; they are right where the area finds every row.
+ghost use mathlib.Core.Path.{_≡_};
+ghost use Prim.Native.Nat.{ℕ, _<_, _≤_};
+ghost use lib.ListN.{length, drop};
+ghost use Rattle.placed_rows.specs.Rows.{Placed};
+ghost use Rattle.search_area.specs.Answers.{NextMatch, Found, Joined};
+ghost use Rattle.search_area.specs.Endings.{EndsAt};
+use placed_rows::Match;
+use placed_rows::NONE;
+
+// The longest row that begins the text from at on, with its length, or NONE and 0.
+pub fn next_match(
+    file: &[u8],
+    places: &[u32],
+    n: usize,
+    area: &[u32],
+    text: &[u8],
+    at: usize,
+) -> Match
+    requires { ⌜ Placed (now file) (now places) n ⌝ }
+    requires { ⌜ (16384 ≤ length (now area)) × (at ≤ length (now text)) ⌝ }
+    ensures { λ r. ⌜ NextMatch (now (file .entry)) (now (places .entry)) n (now (area .entry)) (drop at (now (text .entry))) (r .row) (r .len) ⌝ }
+{
+    forest::descend(file, places, n, &area[..8192], NONE, 0, &text[at..], false)
+}
+
+// The row with these bytes, or NONE.
+pub fn find(file: &[u8], places: &[u32], n: usize, area: &[u32], bytes: &[u8]) -> u32
+    requires { ⌜ Placed (now file) (now places) n ⌝ }
+    requires { ⌜ 16384 ≤ length (now area) ⌝ }
+    ensures { λ r. ⌜ Found (now (file .entry)) (now (places .entry)) n (now (area .entry)) (now (bytes .entry)) r ⌝ }
+{
+    let m = forest::descend(file, places, n, &area[..8192], NONE, 0, bytes, false);
+    let r = m.row;
+    let l = m.len;
+    if l == bytes.len() { r } else { NONE }
+}
+
+// The row with the bytes of row x followed by those of row y, or NONE.
+pub fn join(file: &[u8], places: &[u32], n: usize, area: &[u32], x: u32, y: u32) -> u32
+    requires { ⌜ Placed (now file) (now places) n ⌝ }
+    requires { ⌜ (16384 ≤ length (now area)) × ((x < n) × (y < n)) ⌝ }
+    ensures { λ r. ⌜ Joined (now (file .entry)) (now (places .entry)) n (now (area .entry)) x y r ⌝ }
+{
+    let a = placed_rows::length_of(file, places, n, placed_rows::wide(x));
+    let bytes = placed_rows::bytes_of(file, places, n, placed_rows::wide(y));
+    let m = forest::descend(file, places, n, &area[..8192], x, a, bytes, false);
+    let r = m.row;
+    let l = m.len;
+    if l == a + bytes.len() { r } else { NONE }
+}
+
+// All rows that end the text, shortest first, into out, and how many.
+pub fn ends_at(
+    file: &[u8],
+    places: &[u32],
+    n: usize,
+    area: &[u32],
+    text: &[u8],
+    out: &mut [u32],
+) -> usize
+    requires { ⌜ Placed (now file) (now places) n ⌝ }
+    requires { ⌜ (16384 ≤ length (now area)) × (64 ≤ length (now out)) ⌝ }
+    ensures { λ r. ⌜ EndsAt (now (file .entry)) (now (places .entry)) n (now (area .entry)) (now (text .entry)) (now (out .entry)) (now (out .exit)) r ⌝ }
+{
+    let half = &area[8192..16384];
+    let mut best = NONE;
+    let mut size = 0;
+    let mut m = 0;
+    while size < text.len() {
+        let c = forest::child(
+            file,
+            places,
+            n,
+            half,
+            best,
+            size,
+            placed_rows::beyond(text, size, true),
+            true,
+        );
+        let r = c.row;
+        if r == NONE {
+            return m;
+        }
+        out[m] = r;
+        m += 1;
+        best = r;
+        size = c.len;
+    }
+    m
+}

@@ -1,0 +1,4 @@
+pub mod InForm
+pub mod Ready
+pub mod Steps
+pub mod Answers

@@ -1,0 +1,41 @@
+-- The pair check over tables: what it may read, and what the tables must say for its answer to be the definition's. Assumes nothing.
+use mathlib.Core.Path.{_≡_}
+use mathlib.Core.List.{List, [], _++_}
+use mathlib.Core.Bool.{Bool, true, _&&_}
+use Prim.Native.Nat.{ℕ, _≤_, _<_}
+use lib.ListN.{length, getD}
+use lib.Dec.{ltb, eqb}
+use Rattle.theory.specs.Dictionary.{Dictionary}
+use Rattle.theory.specs.PairCheck.{passes}
+use Rattle.phrase_file.specs.Form.{rows}
+use Rattle.tables.specs.Ready.{PlacesReady, PartsReady}
+use Rattle.search_area.specs.Area.{Finds}
+
+-- rows differ from each other
+abbrev pub Distinct : List ℕ → Type 0
+Distinct file = (u v : ℕ) → u < length (rows file) → v < length (rows file) → getD (rows file) u [] ≡ getD (rows file) v [] → u ≡ v
+
+-- the tables of the rows below q are those of the dictionary D
+pub record Tells (D : Dictionary) (file lefts rights : List ℕ) (q : ℕ) : Type 0 where
+  pub bytes : (c : ℕ) → c < q → D .bytes c ≡ getD (rows file) c []
+  pub long : (c : ℕ) → c < q → D .long c ≡ ltb 1 (length (getD (rows file) c []))
+  pub left : (c : ℕ) → c < q → getD lefts c 0 ≡ D .left c
+  pub right : (c : ℕ) → c < q → getD rights c 0 ≡ D .right c
+  pub joined : (c : ℕ) → c < q → D .long c ≡ true → D .bytes (D .left c) ++ D .bytes (D .right c) ≡ D .bytes c
+
+-- what may be read: the rows, the parts of the rows below q, and two such rows
+pub record PairReady (file places lefts rights area : List ℕ) (n q u v : ℕ) : Type 0 where
+  pub places-ready : PlacesReady file places n
+  pub parts-ready : PartsReady file lefts rights q
+  pub area-room : 16384 ≤ length area
+  pub few : q ≤ n
+  pub left-below : u < q
+  pub right-below : v < q
+
+-- row c is below m and has u and v as its parts
+unfoldable pub listedIn : List ℕ → List ℕ → ℕ → ℕ → ℕ → ℕ → Bool
+listedIn lefts rights c m u v = ltb c m && (eqb (getD lefts c 0) u && eqb (getD rights c 0) v)
+
+-- the answer is that of the pair check over the rows below q
+pub record PairIs (file places lefts rights area : List ℕ) (n q u v : ℕ) (r : Bool) : Type 0 where
+  pub passes-is : (D : Dictionary) → Tells D file lefts rights q → Distinct file → Finds file places n area → r ≡ passes D q u v

@@ -132,16 +132,8 @@ pub fn descend(
     let mut best = from;
     let mut size = len;
     while size - len < text.len() {
-        let m = child(
-            file,
-            places,
-            n,
-            half,
-            best,
-            size,
-            placed_rows::beyond(text, size - len, back),
-            back,
-        );
+        let rest = placed_rows::beyond(text, size - len, back);
+        let m = child(file, places, n, half, best, size, rest, back);
         let r = m.row;
         if r == NONE {
             return Match {
@@ -178,10 +170,8 @@ pub fn insert(file: &[u8], places: &[u32], n: usize, half: &mut [u32], c: usize,
     let p = m.row;
     let k = m.len;
     if k < bytes.len() {
-        let h = bucket(
-            p,
-            placed_rows::first(placed_rows::beyond(bytes, k, back), back),
-        );
+        let next = placed_rows::first(placed_rows::beyond(bytes, k, back), back);
+        let h = bucket(p, next);
         push(half, h, c, word_of(c, p, bytes.len()));
     }
 }

@@ -8,7 +8,7 @@ use lib.ListN.{length}
 use Rattle.placed_rows.specs.Rows.{none}
 use Rattle.placed_rows.specs.Texts.{Begins}
 
--- the rows of a file that has n
+-- the rows of a file of n rows
 abbrev pub Below : ℕ → ℕ → Type 0
 Below n d = d < n
 
@@ -16,13 +16,13 @@ Below n d = d < n
 abbrev pub Known : (ℕ → Type 0) → ℕ → Type 0
 Known K r = (r ≡ none) ⊎ K r
 
--- the longest row at the front: r is the longest row that begins t, or none where no row does
+-- "the longest row at the front" of t: r is the longest row that begins t, or none where no row does
 pub record Longest (R : ℕ → List ℕ) (K : ℕ → Type 0) (t : List ℕ) (r : ℕ) : Type 0 where
   pub known : Known K r
   pub begins : Begins (R r) t
   pub longest : (d : ℕ) → K d → Begins (R d) t → length (R d) ≤ length (R r)
 
--- prefix: q is the longest other row that begins row c, else none
+-- "prefix" of row c, its next shorter prefix: q is the longest other row that begins it, else none; it is shorter, since rows differ
 pub record Prefix (R : ℕ → List ℕ) (K : ℕ → Type 0) (c q : ℕ) : Type 0 where
   pub known : Known K q
   pub begins : Begins (R q) (R c)

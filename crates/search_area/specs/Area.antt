@@ -22,6 +22,6 @@ pub record Holds (file places : List ℕ) (n : ℕ) (area : List ℕ) (S : ℕ �
 abbrev pub allRows : ℕ → ℕ → Bool
 allRows n d = ltb d n
 
--- the search area finds every row: what build leaves
+-- the search area finds every row; it is this that build leaves and that the lookups need, and nothing above sees more of the arrangement
 unfoldable pub Finds : List ℕ → List ℕ → ℕ → List ℕ → Type 0
 Finds file places n area = Holds file places n area (allRows n)

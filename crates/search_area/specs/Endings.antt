@@ -23,7 +23,7 @@ pub record Listed (size : ℕ → ℕ) (P : ℕ → Type 0) (m : ℕ) (out : Lis
 abbrev pub EndsText : List ℕ → List ℕ → ℕ → List ℕ → ℕ → Type 0
 EndsText file places n text d = (d < n) × Ends (row file places n d) text
 
--- all rows ending at a place, longest first: read from the last to the first, the m entries are the rows that end the text
+-- "all rows ending at a place, longest first": the m entries, read from the last to the first, are the rows that end the text
 pub record EndsAt (file places : List ℕ) (n : ℕ) (area text out out' : List ℕ) (m : ℕ) : Type 0 where
   pub few : m ≤ 64
   pub bound : (i : ℕ) → i < m → getD out' i 0 < n

@@ -68,16 +68,8 @@ pub fn ends_at(
     let mut size = 0;
     let mut m = 0;
     while size < text.len() {
-        let c = forest::child(
-            file,
-            places,
-            n,
-            half,
-            best,
-            size,
-            placed_rows::beyond(text, size, true),
-            true,
-        );
+        let rest = placed_rows::beyond(text, size, true);
+        let c = forest::child(file, places, n, half, best, size, rest, true);
         let r = c.row;
         if r == NONE {
             return m;

@@ -32,9 +32,6 @@ pub record Facts (file placeTable lefts rights prefixes area : List ℕ) (n : �
   pub places-match : take n placeTable ≡ places file
   pub rows-fit : (i : ℕ) → i < n → rowInForm n (rowSize file) lefts rights prefixes i ≡ true
 
-same-rows : (m n : ℕ) → Rows m ≡ Rows n → m ≡ n
-same-rows m n e = cc
-
 rows-passed : (file : List ℕ) → isRows (checkOf file) ≡ true → checkOf file ≡ Rows (count file)
 rows-passed file e = go (checkOf file) refl e
   where

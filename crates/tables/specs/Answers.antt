@@ -20,7 +20,7 @@ module _ (file placeTable lefts rights prefixes area : List ℕ) where
   unfoldable pub numTokensOf : Answer
   numTokensOf = whenInForm (formOf file placeTable lefts rights prefixes area) Number
 
-  -- `token_len`: the number of the row's bytes; a code not below n is refused (10)
+  -- `token_len`: the number of the row's bytes; a code not below n is refused (10, index 0)
   unfoldable pub tokenLenOf : ℕ → Answer
   tokenLenOf token =
       whenInForm (formOf file placeTable lefts rights prefixes area) (λ (n : ℕ). cond (ltb token n) (Number (rowSize file token)) (Refused (UnknownCode 0)))

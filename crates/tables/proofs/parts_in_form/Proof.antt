@@ -40,10 +40,10 @@ returns-2 c =
     _ _ _ (c .before .before .before .before .wide-byte .ensures .is) (c .before .before .wide-byte2 .ensures .is) (c .wide-byte3 .ensures .is)
 
 returns-3 : tie.Need-returns-3
-returns-3 c = left-other _ _ _ _ _ _ (c .before .before .before .wide .ensures .is) (c .before .before .wide2 .ensures .is) (c .before .if1 .left) (c .if3 .taken)
+returns-3 c = left-other _ _ _ _ _ _ (c .before .before .before .wide .ensures .is) (c .before .before .wide2 .ensures .is) (c .before .if1 .left) (search needs)
 
 returns-4 : tie.Need-returns-4
-returns-4 c = right-other _ _ _ _ _ _ (c .before .before .before .before .wide .ensures .is) (c .before .before .before .wide2 .ensures .is) (c .before .before .if1 .left) (c .before .if3 .left) (c .if4 .taken)
+returns-4 c = right-other _ _ _ _ _ _ (c .before .before .before .before .wide .ensures .is) (c .before .before .before .wide2 .ensures .is) (c .before .before .if1 .left) (c .before .if3 .left) (search needs)
 
 element-copy-out-result : tie.Need-element-copy-out-result
 element-copy-out-result c = search needs

@@ -1,6 +1,6 @@
 -- `places_match` meets its contract: before each row the places passed match the file and the lengths of these rows are written. Assumes nothing.
 use mathlib.Core.Path.{_∙_}
-use Prim.Native.Nat.{_+_, _-_}
+use Prim.Native.Nat.{_+_, _-_, _<_}
 use native.Mathlib.Omega.{arith}
 use lib.ListN.{getD, set}
 use borrow.Author.Needs.{needs}
@@ -22,13 +22,17 @@ entry c = c .before .before .before .before .before .before .before .before .bef
 abbrev head : tie.After-wide-byte Inv-loop μ-loop → tie.At-loop Inv-loop μ-loop
 head c = c .before .before .before .before .before .before .before
 
+-- the row is one of the file's
+below : (c : tie.In-loop Inv-loop μ-loop) → c .before .loop .row < c .before .before .before .before .args .n
+below c = omega (arith, c .loop-test .taken)
+
 -- what a turn leaves
 turn : (c : tie.After-wide-byte Inv-loop μ-loop)
     → Matching (entry c .args .file .now) (entry c .args .places .now) (entry c .args .n)
     (set (head c .loop .sizes) (head c .loop .row) (getD (entry c .args .file .now) (c .before .before .before .before .wide .result + 2) 0))
     (head c .loop .at + 3 + c .wide-byte .result) (head c .loop .row + 1)
 turn c =
-    match-more _ _ _ _ (entry c .pre) _ _ _ (head c .loop .inv) (c .before .before .before .before .before .before .loop-test .taken)
+    match-more _ _ _ _ (entry c .pre) _ _ _ (head c .loop .inv) (below (c .before .before .before .before .before .before))
     _ _ (c .before .before .before .before .wide .ensures .is) (c .before .if2 .left) (c .wide-byte .ensures .is)
 
 loop-holds : tie.Need-loop-holds Inv-loop μ-loop
@@ -48,8 +52,8 @@ add-if1 c = search needs
 
 returns : tie.Need-returns Inv-loop μ-loop
 returns c =
-    let r = next-row _ _ _ _ (c .before .before .before .before .before .before .before .pre) _ _ _ (c .before .before .before .before .loop .inv) (c .before .before .before .loop-test .taken) in
-    match-fails _ _ _ _ (c .before .before .before .before .before .before .before .pre) _ _ _ (c .before .before .before .before .loop .inv) (c .before .before .before .loop-test .taken) _ (λ e. omega (arith, r .inside, c .before .wide .ensures .is))
+    let r = next-row _ _ _ _ (c .before .before .before .before .before .before .before .pre) _ _ _ (c .before .before .before .before .loop .inv) (below (c .before .before .before)) in
+    match-fails _ _ _ _ (c .before .before .before .before .before .before .before .pre) _ _ _ (c .before .before .before .before .loop .inv) (below (c .before .before .before)) _ (λ e. omega (arith, r .inside, c .before .wide .ensures .is))
 
 add-size : tie.Need-add-size Inv-loop μ-loop
 add-size c = search needs
@@ -59,7 +63,7 @@ shared-slice-read-size c = search needs
 
 returns-2 : tie.Need-returns-2 Inv-loop μ-loop
 returns-2 c =
-    match-fails _ _ _ _ (c .before .before .before .before .before .before .before .before .before .pre) _ _ _ (c .before .before .before .before .before .before .loop .inv) (c .before .before .before .before .before .loop-test .taken) _ (λ e. c .if2 .taken (c .before .before .before .wide .ensures .is ∙ e))
+    match-fails _ _ _ _ (c .before .before .before .before .before .before .before .before .before .pre) _ _ _ (c .before .before .before .before .before .before .loop .inv) (below (c .before .before .before .before .before)) _ (λ e. c .if2 .taken (c .before .before .before .wide .ensures .is ∙ e))
 
 element-write-sizes : tie.Need-element-write-sizes Inv-loop μ-loop
 element-write-sizes c = let a = accepted _ _ (c .before .before .before .before .before .before .before .before .before .pre .passed) in omega (arith, a .most)

@@ -1,5 +1,6 @@
 -- `token_len` meets its contract: rows of tables in form are those of the file. Assumes nothing.
 use mathlib.Core.Path.{_≡_, sym, _∙_}
+use native.Mathlib.Omega.{arith}
 use borrow.Author.Needs.{needs}
 use Rattle.tables.specs.InForm.{formOf}
 use Rattle.tables.specs.declared.Form.the-variants.{Rows}
@@ -30,7 +31,7 @@ wide-requires : tie.Need-wide-requires
 wide-requires c κs = search needs
 
 returns-2 : tie.Need-returns-2
-returns-2 c = len-unknown _ _ _ _ _ _ _ (formed (c .before .before)) _ _ (c .before .wide .ensures .is) (c .if1 .taken)
+returns-2 c = len-unknown _ _ _ _ _ _ _ (formed (c .before .before)) _ _ (c .before .wide .ensures .is) (omega (arith, c .if1 .taken))
 
 length-of-requires : tie.Need-length-of-requires
 length-of-requires c κs = (ready _ _ _ _ _ _ _ (formed (c .before .before)) .places-ready .placed, c .if1 .left)

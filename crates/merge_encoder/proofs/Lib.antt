@@ -1,0 +1,4 @@
+pub mod Lookup
+pub mod Scan
+pub mod Shift
+pub mod Turns

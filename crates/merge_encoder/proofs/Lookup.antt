@@ -1,0 +1,84 @@
+-- The row of a byte and the join of two codes, as the search area answers them, in terms of the definitions. Assumes nothing.
+use mathlib.Core.Path.{_≡_, sym, ap, subst, _∙_}
+use mathlib.Core.Logic.{_⊎_, ⊎-elim}
+use mathlib.Core.List.{List, [], _∷_, _++_}
+use Prim.Native.Nat.{ℕ, _+_, _-_, _≤_, _<_}
+use native.Mathlib.Omega.{arith}
+use lib.ListN.{length, getD, take, drop}
+use lib.Seq.{drop-cons}
+use Rattle.placed_rows.specs.Rows.{none, row}
+use Rattle.search_area.specs.Answers.{Found}
+use Rattle.theory.specs.Dictionary.{Dictionary}
+use Rattle.theory.specs.Merge.{join}
+use Rattle.theory.proofs.Lists.{lt-or-ge}
+use Rattle.theory.proofs.Merge.{rowBelow-is, rowBelow-le, distinct, join-is}
+use Rattle.built.specs.Built.{dictionaryOf, Built}
+use Rattle.built.proofs.Rows.{count-is, row-bytes, lawful-is, known}
+use Rattle.built.proofs.Lookups.{join-some, join-none}
+use Rattle.merge_encoder.specs.Encoding.{RowsReady}
+use Rattle.merge_encoder.specs.Steps.{ByteCode, JoinIs}
+
+-- the part of a text that is the byte at a place
+one-byte : (t : List ℕ) (i : ℕ) → i < length t → take (i + 1 - i) (drop i t) ≡ getD t i 0 ∷ []
+one-byte t i h = let e : i + 1 - i ≡ 1 = omega arith in rw (e, drop-cons t i 0 h)
+
+module _ (file placeTable area : List ℕ) (n : ℕ) (R : RowsReady file placeTable area n) where
+  -- c answers the search for the byte at the place i of t
+  module _ (t : List ℕ) (i c : ℕ) (h : i < length t) (small : getD t i 0 < 256) (F : Found file placeTable n area (take (i + 1 - i) (drop i t)) c) where
+    abbrev b : ℕ
+    b = getD t i 0
+
+    f : Found file placeTable n area (b ∷ []) c
+    f = subst (λ (s : List ℕ). Found file placeTable n area s c) (one-byte t i h) F
+
+    own : (lefts rights prefixes : List ℕ) → Built file placeTable lefts rights prefixes area n → dictionaryOf file .code b < n
+    own lefts rights prefixes B =
+        omega (arith, known file placeTable lefts rights prefixes area n B (b ∷ []) (small, tt) .0, count-is file placeTable lefts rights prefixes area n B)
+
+    spelled : (lefts rights prefixes : List ℕ) → Built file placeTable lefts rights prefixes area n → row file placeTable n (dictionaryOf file .code b) ≡ b ∷ []
+    spelled lefts rights prefixes B =
+        row-bytes file placeTable lefts rights prefixes area n B (dictionaryOf file .code b) (own lefts rights prefixes B)
+        ∙ lawful-is file placeTable lefts rights prefixes area n B .laws .byte b
+
+    pub byte-none : c ≡ none → ByteCode file placeTable area n (getD t i 0) 0
+    byte-none e = record {
+      below = omega (arith, R .places-ready .least);
+      built = λ lefts rights prefixes B. absurd (f .found (B .finds) .all e (dictionaryOf file .code b) (own lefts rights prefixes B) (spelled lefts rights prefixes B));
+    }
+
+    pub byte-some : (c ≡ none → ⊥) → ByteCode file placeTable area n (getD t i 0) c
+    byte-some s = record {
+      below = ⊎-elim (λ e. absurd (s e)) (λ h. h) (f .bound);
+      built = λ lefts rights prefixes B.
+          let A = lawful-is file placeTable lefts rights prefixes area n B in
+          let e = count-is file placeTable lefts rights prefixes area n B in
+          let j = f .found (B .finds) .is s in
+          let o = own lefts rights prefixes B in
+          distinct (dictionaryOf file) A c (dictionaryOf file .code b) (omega (arith, j .0)) (omega arith)
+          (sym (row-bytes file placeTable lefts rights prefixes area n B c (j .0)) ∙ j .1 ∙ sym (A .laws .byte b));
+    }
+
+  -- w answers the search for the joined bytes of x and y
+  module _ (x y w : ℕ) (hx : x < n) (hy : y < n) (f : Found file placeTable n area (row file placeTable n x ++ row file placeTable n y) w) where
+    pub no-join : w ≡ none → JoinIs file placeTable area n x y n
+    no-join e = record {
+      most = omega arith;
+      built = λ lefts rights prefixes B.
+          let D = dictionaryOf file in
+          let k = count-is file placeTable lefts rights prefixes area n B in
+          let m = rowBelow-le D (D .count) (D .bytes x ++ D .bytes y) (omega arith) in
+          ⊎-elim
+          (λ l. absurd (join-none file placeTable lefts rights prefixes area n B x y w hx hy f e (join D x y) (omega arith) (rowBelow-is D (D .count) (D .bytes x ++ D .bytes y) l)))
+          (λ l. omega arith)
+          (lt-or-ge (join D x y) (D .count));
+    }
+
+    pub some-join : (w ≡ none → ⊥) → JoinIs file placeTable area n x y w
+    some-join s = record {
+      most = ⊎-elim (λ e. absurd (s e)) (λ h. omega arith) (f .bound);
+      built = λ lefts rights prefixes B.
+          let A = lawful-is file placeTable lefts rights prefixes area n B in
+          let k = count-is file placeTable lefts rights prefixes area n B in
+          let j = join-some file placeTable lefts rights prefixes area n B x y w hx hy f s in
+          sym (join-is (dictionaryOf file) A w x y (omega (arith, j .0)) (sym (j .1)));
+    }

@@ -1,0 +1,105 @@
+// The parts of the rows, found row by row over the rows before.
+ghost use mathlib.Core.Path.{_≡_};
+ghost use Prim.Native.Nat.{_<_};
+ghost use Rattle.parts.specs.Parts.{Looking, Beginner, RightPart, PrefixesFound, PartsFound, PartsFit, PartsFilled};
+use placed_rows::NONE;
+use placed_rows::wide;
+
+// The left and the right part of a row, or NONE twice.
+pub struct TokenParts {
+    pub left: u32,
+    pub right: u32,
+}
+
+// The rest of row w beyond its beginning `left`, if the two are its parts, else NONE.
+fn right_part(
+    file: &[u8],
+    places: &[u32],
+    lefts: &[u32],
+    rights: &[u32],
+    area: &[u32],
+    n: usize,
+    w: u32,
+    left: u32,
+) -> u32
+    requires { ⌜ Looking (now file) (now places) (now lefts) (now rights) (now area) n w ⌝ }
+    requires { ⌜ Beginner (now file) (now places) n w left ⌝ }
+    ensures { λ r. ⌜ RightPart (now (file .entry)) w left r ⌝ }
+{
+    let bytes = placed_rows::bytes_of(file, places, n, wide(w));
+    let from = placed_rows::length_of(file, places, n, wide(left));
+    let right = search_area::find(file, places, n, area, &bytes[from..]);
+    if w <= left {
+        return NONE;
+    }
+    if w <= right {
+        return NONE;
+    }
+    if token_pair::is_valid_pair_below(file, places, lefts, rights, area, n, w, left, right) {
+        return right;
+    }
+    NONE
+}
+
+// The parts of row w: a one-byte row has itself twice; for a longer one the rows that begin it are tried, longest first.
+pub fn find_parts(
+    file: &[u8],
+    places: &[u32],
+    lefts: &[u32],
+    rights: &[u32],
+    prefixes: &[u32],
+    area: &[u32],
+    n: usize,
+    w: u32,
+) -> TokenParts
+    requires { ⌜ Looking (now file) (now places) (now lefts) (now rights) (now area) n w ⌝ }
+    requires { ⌜ PrefixesFound (now file) (now places) (now prefixes) n ⌝ }
+    ensures { λ r. ⌜ PartsFound (now (file .entry)) w (r .left) (r .right) ⌝ }
+{
+    let row = wide(w);
+    if placed_rows::length_of(file, places, n, row) == 1 {
+        return TokenParts { left: w, right: w };
+    }
+    let mut left = prefixes[row];
+    while left != NONE {
+        let right = right_part(file, places, lefts, rights, area, n, w, left);
+        if right != NONE {
+            return TokenParts {
+                left: left,
+                right: right,
+            };
+        }
+        left = prefixes[wide(left)];
+    }
+    TokenParts {
+        left: NONE,
+        right: NONE,
+    }
+}
+
+// Writes the parts of the rows into the tables, and says which row is the lowest without parts, n where all have parts.
+pub fn fill_parts(
+    file: &[u8],
+    places: &[u32],
+    lefts: &mut [u32],
+    rights: &mut [u32],
+    prefixes: &[u32],
+    area: &[u32],
+    n: usize,
+) -> usize
+    requires { ⌜ PartsFit (now file) (now places) (now lefts) (now rights) (now prefixes) (now area) n ⌝ }
+    ensures { λ r. ⌜ PartsFilled (now (file .entry)) (now (lefts .entry)) (now (rights .entry)) (now (lefts .exit)) (now (rights .exit)) n r ⌝ }
+{
+    let mut w = 0;
+    while w < n {
+        let parts = find_parts(file, places, lefts, rights, prefixes, area, n, w as u32);
+        let left = parts.left;
+        if left == NONE {
+            return w;
+        }
+        lefts[w] = left;
+        rights[w] = parts.right;
+        w += 1;
+    }
+    n
+}

@@ -1,0 +1,5 @@
+pub mod Sizes
+pub mod Candidates
+pub mod Filling
+pub mod Walking
+pub mod Codes

@@ -1,9 +1,7 @@
 -- The tables of parts are filled row by row, until a row has none. Assumes nothing.
 use mathlib.Core.Path.{_≡_, refl, sym, ap, _∙_}
-use mathlib.Core.Logic.{_⊎_, ⊎-elim}
-use mathlib.Core.List.{List, []}
-use mathlib.Core.Bool.{Bool, true, false}
-use mathlib.Core.Option.{Option, some}
+use mathlib.Core.Logic.{⊎-elim}
+use mathlib.Core.List.{List}
 use mathlib.Core.Option as Option
 use Prim.Native.Nat.{ℕ, _+_, _-_, _≤_, _<_}
 use native.Mathlib.Decide.{decLt}
@@ -15,7 +13,7 @@ use Rattle.phrase_file.specs.Form.{rows}
 use Rattle.phrase_file.specs.Checks.{firstNot}
 use Rattle.phrase_file.proofs.Bytes.{first-passed, first-here, first-end}
 use Rattle.placed_rows.specs.Rows.{none}
-use Rattle.parts.specs.Parts.{isSome, hasParts, firstWithout, partsIn, RowParts, PartsKnown, Looking, NoParts, PartsFound, PartsFit, PartsFilled}
+use Rattle.parts.specs.Parts.{isSome, hasParts, firstWithout, partsIn, RowParts, PartsKnown, Looking, PartsFound, PartsFit, PartsFilled}
 use Rattle.parts.proofs.Trying.{left-low}
 
 -- the tables have the parts of the rows below w, which all have parts

@@ -10,10 +10,9 @@ use lib.Seq.{split-at, getD-at, length-take-le}
 use Rattle.theory.specs.Lists.{firstOr}
 use Rattle.theory.specs.Dictionary.{Dictionary}
 use Rattle.theory.specs.Parts.{Parts, bytesOf, withParts, prefixes, prefix}
-use Rattle.theory.proofs.RowsAt.{Beginning, Different, LongestUpTo, rows-in, rows-chain, first-is, first-none}
+use Rattle.theory.proofs.RowsAt.{Beginning, Different, rows-in, rows-chain, first-is, first-none}
 use Rattle.phrase_file.specs.Form.{rows}
 use Rattle.placed_rows.specs.Rows.{none, row}
-use Rattle.placed_rows.specs.Texts.{Begins}
 use Rattle.placed_rows.specs.Longest.{Below, Prefix}
 use Rattle.placed_rows.proofs.Placing.{row-none}
 use Rattle.tables.specs.Ready.{PlacesReady}

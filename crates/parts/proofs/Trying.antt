@@ -2,19 +2,16 @@
 use mathlib.Core.Path.{_≡_, refl, sym, ap, ap₂, _∙_}
 use mathlib.Core.Logic.{_⊎_, inl, inr, ⊎-elim}
 use mathlib.Core.List.{List, [], _∷_, _++_}
-use mathlib.Core.Bool.{Bool, true, false, _&&_}
+use mathlib.Core.Bool.{Bool, true, false}
 use mathlib.Core.Option.{Option, some}
 use mathlib.Core.Option as Option
-use Prim.Native.Nat.{ℕ, suc, _-_, _≤_, _<_}
-use native.Mathlib.Decide.{decLt, ℕ-discrete}
+use Prim.Native.Nat.{ℕ, _-_, _≤_, _<_}
 use native.Mathlib.Omega.{arith}
 use lib.ListN.{length, length-append, length-drop, getD, take, drop}
 use lib.Seq.{take-all}
 use lib.Dec.{ltb}
 use borrow.Author.Tests.{lt-ltb, le-ltb, ltb-true}
 use Rattle.theory.specs.Dictionary.{Dictionary}
-use Rattle.theory.specs.Merge.{rowOf}
-use Rattle.theory.specs.PairCheck.{passes}
 use Rattle.theory.specs.Parts.{Parts, partOr, bytesOf, withParts, restOf, arePartsOf, firstParts, partsOf, partsBelow, prefixes}
 use Rattle.theory.proofs.Lists.{bool-cases, lt-or-ge}
 use Rattle.theory.proofs.Merge.{rowBelow-is}
@@ -23,13 +20,12 @@ use Rattle.theory.proofs.Accepted.{parts-at}
 use Rattle.phrase_file.specs.Form.{rows}
 use Rattle.placed_rows.specs.Rows.{none, row}
 use Rattle.placed_rows.specs.Texts.{Begins}
-use Rattle.placed_rows.specs.Longest.{Below, Prefix}
 use Rattle.placed_rows.proofs.Beginning.{begins-length, through, whole, beyond}
-use Rattle.tables.specs.Ready.{PartsReady, Lower}
+use Rattle.tables.specs.Ready.{PartsReady}
 use Rattle.search_area.specs.Answers.{Found}
 use Rattle.token_pair.specs.Pair.{Tells, PairReady, PairIs}
-use Rattle.parts.specs.Parts.{partsIn, RowsFound, PrefixesFound, Joined, RowParts, PartsKnown, Looking, Beginner, Fails, Passes, RightPart, NoParts, PartsFound}
-use Rattle.parts.proofs.Prefixes.{bytes-are, row-bytes, different, Next, prefix-cases}
+use Rattle.parts.specs.Parts.{partsIn, PrefixesFound, RowParts, Looking, Beginner, Fails, Passes, RightPart, PartsFound}
+use Rattle.parts.proofs.Prefixes.{bytes-are, row-bytes, different, prefix-cases}
 
 -- a one-byte row has itself twice
 parts-single : (rs : List (List ℕ)) (w : ℕ) → length (bytesOf rs w) ≤ 1 → partsIn rs w ≡ some (record { left = w; right = w })

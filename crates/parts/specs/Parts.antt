@@ -25,7 +25,7 @@ isSome (some p) = true
 unfoldable pub hasParts : List (List ℕ) → ℕ → Bool
 hasParts rows w = isSome (getD (partsBelow rows (length rows)) w Option.none)
 
--- cause 6: the lowest row without parts, n where all have parts
+-- cause 6: the lowest row without parts, n where all have parts. It is a longer row, since a one-byte row has itself twice
 unfoldable pub firstWithout : List (List ℕ) → ℕ
 firstWithout rows = firstNot (length rows) (hasParts rows) 0
 

@@ -6,9 +6,9 @@ use placed_rows::NONE;
 use placed_rows::wide;
 
 // The left and the right part of a row, or NONE twice.
-pub struct TokenParts {
-    pub left: u32,
-    pub right: u32,
+struct TokenParts {
+    left: u32,
+    right: u32,
 }
 
 // The rest of row w beyond its beginning `left`, if the two are its parts, else NONE.
@@ -42,7 +42,7 @@ fn right_part(
 }
 
 // The parts of row w: a one-byte row has itself twice; for a longer one the rows that begin it are tried, longest first.
-pub fn find_parts(
+fn find_parts(
     file: &[u8],
     places: &[u32],
     lefts: &[u32],

@@ -1,7 +1,6 @@
+-- The loop keeps that the tables have the parts of the rows below w. Assumes nothing.
 use native.Mathlib.Omega.{arith}
-use mathlib.Core.Path.{_≡_, ap, _∙_, sym, refl}
-use Prim.Native.Nat.{ℕ, _-_, _<_, _≤_}
-use lib.ListN.{length}
+use Prim.Native.Nat.{_-_}
 use Rattle.parts.proofs.Filling.{Filling, filling-start, filling-looks, filling-done, filling-stops, filling-goes-on}
 use borrow.Author.Needs.{needs}
 use Rattle.parts.proofs.fill_parts.Statement.{statement}

@@ -1,8 +1,7 @@
+-- The loop keeps which row is the next to try, and that it decides the parts. Each is shorter than the one before. Assumes nothing.
 use native.Mathlib.Omega.{arith}
-use mathlib.Core.Logic.{⊎-elim, inl, inr}
-use mathlib.Core.Path.{_≡_, ap, _∙_, sym}
 use lib.ListN.{length}
-use Rattle.placed_rows.specs.Rows.{none, row}
+use Rattle.placed_rows.specs.Rows.{row}
 use Rattle.parts.proofs.Trying.{Tried, Trying, found-single, next-row, none-left, found-parts, try-first, try-next, try-less}
 use borrow.Author.Needs.{needs}
 use Rattle.parts.proofs.find_parts.Statement.{statement}

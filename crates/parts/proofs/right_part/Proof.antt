@@ -1,11 +1,10 @@
-use Prim.Native.Nat.{ℕ, _≤_, _<_}
+-- Rests on the laws of one row that is tried: what find answers for the rest, and what the pair check then says. Assumes nothing.
+use Prim.Native.Nat.{_≤_}
 use native.Mathlib.Omega.{arith}
 use mathlib.Core.Logic.{inl, inr}
-use mathlib.Core.Path.{_≡_, ap, _∙_, sym}
 use lib.ListN.{length, drop}
 use Rattle.theory.specs.Parts.{bytesOf}
 use Rattle.phrase_file.specs.Form.{rows}
-use Rattle.placed_rows.specs.Rows.{row}
 use Rattle.search_area.specs.Answers.{Found}
 use Rattle.parts.proofs.Trying.{found-rest, inside, fails-left, fails-right, pair-ready, fails-check, passes-check}
 use borrow.Author.Needs.{needs}
@@ -48,10 +47,10 @@ find-requires : tie.Need-find-requires
 find-requires c κs = let s = c .before .before .before .before .before .before .before .before .before .before in (s .pre .0 .rows-found .places-ready .placed, s .pre .0 .rows-found .area-room)
 
 returns : tie.Need-returns
-returns c = inl (fails-left _ _ _ _ _ _ _ (c .before .before .before .before .before .before .before .before .before .before .before .before .pre .0) _ _ (c .before .before .before .before .before .before .before .before .before .before .before .before .pre .1) (found (c .before)) (c .if1 .taken))
+returns c = inl (fails-left _ _ _ _ _ _ _ (c .before .before .before .before .before .before .before .before .before .before .before .before .pre .0) _ _ (c .before .before .before .before .before .before .before .before .before .before .before .before .pre .1) (found (c .before)) (omega arith))
 
 returns-2 : tie.Need-returns-2
-returns-2 c = inl (fails-right _ _ _ _ _ _ _ (c .before .before .before .before .before .before .before .before .before .before .before .before .before .pre .0) _ _ (c .before .before .before .before .before .before .before .before .before .before .before .before .before .pre .1) (found (c .before .before)) (c .if2 .taken))
+returns-2 c = inl (fails-right _ _ _ _ _ _ _ (c .before .before .before .before .before .before .before .before .before .before .before .before .before .pre .0) _ _ (c .before .before .before .before .before .before .before .before .before .before .before .before .before .pre .1) (found (c .before .before)) (omega arith))
 
 is-valid-pair-below-requires : tie.Need-is-valid-pair-below-requires
 is-valid-pair-below-requires c κs = pair-ready _ _ _ _ _ _ _ (c .before .before .before .before .before .before .before .before .before .before .before .before .before .pre .0) _ _ (c .before .before .before .before .before .before .before .before .before .before .before .before .before .pre .1) (found (c .before .before)) (omega arith) (omega arith)

@@ -1,0 +1,89 @@
+-- Whether a row may be added, case by case. Assumes nothing.
+use mathlib.Core.Path.{_≡_, refl, sym, ap, _∙_}
+use mathlib.Core.List.{List, [], _∷_}
+use mathlib.Core.Bool.{Bool, true, false, not, _&&_}
+use Prim.Native.Nat.{ℕ, _+_, _-_, _≤_, _<_}
+use native.Mathlib.Omega.{arith}
+use lib.ListN.{length, getD}
+use Rattle.theory.specs.Backtracking.{State, place, follows}
+use Rattle.theory.proofs.Lists.{true-false}
+use Rattle.placed_rows.specs.Rows.{row}
+use Rattle.placed_rows.specs.Texts.{Small}
+use Rattle.tables.specs.Ready.{PartsReady}
+use Rattle.bitfield.specs.Bits.{isSet}
+use Rattle.token_pair.specs.Pair.{PairReady, PairIs}
+use Rattle.built.specs.Built.{dictionaryOf}
+use Rattle.built.proofs.Rows.{pair-is}
+use Rattle.backtrack_encoder.specs.declared.BacktrackEncoder.{BacktrackEncoder}
+use Rattle.backtrack_encoder.specs.Encoder.{RowsReady, stackOf, EncoderReady, Shows}
+use Rattle.backtrack_encoder.specs.Steps.{EndsIn, FitsIs}
+use Rattle.backtrack_encoder.proofs.Stack.{stack-nil, stack-last}
+use Rattle.backtrack_encoder.proofs.Sizes.{read-length}
+
+and-true : (a b : Bool) → b ≡ true → a ≡ a && b
+and-true true b e = sym e
+and-true false b e = refl
+
+and-false : (a b : Bool) → b ≡ false → false ≡ a && b
+and-false true b e = sym e
+and-false false b e = refl
+
+-- the last code and row c may be checked
+pub pair-ready : (file places lefts rights area : List ℕ) (n : ℕ) (text : List ℕ) (e : BacktrackEncoder) (work : List ℕ) (c : ℕ)
+    → RowsReady file places area n text work → PartsReady file lefts rights n → EncoderReady file n text e work → c < n → (e .count ≡ 0 → ⊥)
+    → PairReady file places lefts rights area n n (getD work (e .count - 1) 0) c
+pair-ready file places lefts rights area n text e work c T S R h some = record {
+  places-ready = T .places-ready;
+  parts-ready = S;
+  area-room = T .area-room;
+  few = omega arith;
+  left-below = R .codes (e .count - 1) (omega arith);
+  right-below = h;
+}
+
+-- row c, as an index w, has l bytes as they are read
+module _ (file places lefts rights area : List ℕ) (n : ℕ) (text : List ℕ) (e : BacktrackEncoder) (work dead : List ℕ) (c w l : ℕ)
+    (T : RowsReady file places area n text work) (R : EncoderReady file n text e work) (h : c < n)
+    (W : Small c 4294967296 w) (S : Small (length (row file places n w)) 256 l) where
+  length-read : l ≡ length (dictionaryOf file .bytes c)
+  length-read = read-length file places n (T .places-ready) c w l h W S
+
+  -- its end behind a stack
+  end-place : (s : State) → Shows (dictionaryOf file) text e work dead s → e .pos + l ≡ place (dictionaryOf file) (c ∷ s .stack)
+  end-place s v = let p : e .pos ≡ place (dictionaryOf file) (s .stack) = R .reached ∙ ap (place (dictionaryOf file)) (sym (v .stack)) in omega (arith, p, length-read)
+
+  -- whether that is dead
+  end-bit : (s : State) → Shows (dictionaryOf file) text e work dead s → e .pos + l ≤ length text
+      → isSet dead (e .pos + l) ≡ not (s .dead (place (dictionaryOf file) (c ∷ s .stack)))
+  end-bit s v i = v .alive (e .pos + l) i ∙ ap (λ (p : ℕ). not (s .dead p)) (end-place s v)
+
+  ends : e .pos + l ≤ length text → EndsIn file text e c
+  ends i = omega (arith, length-read)
+
+  pub fits-outside : length text < e .pos + l → FitsIs file places lefts rights area n text e work dead c false
+  fits-outside o = record { ends = λ f. absurd (true-false (sym f)); built = λ prefixes B s v i. absurd (omega (arith, length-read)) }
+
+  pub fits-dead : e .pos + l ≤ length text → isSet dead (e .pos + l) ≡ false → FitsIs file places lefts rights area n text e work dead c false
+  fits-dead i d = record { ends = λ _. ends i; built = λ prefixes B s v _. and-false (follows (dictionaryOf file) (s .stack) c) _ (sym (end-bit s v i) ∙ d) }
+
+  -- it is the first code
+  pub fits-alone : e .pos + l ≤ length text → isSet dead (e .pos + l) ≡ true → e .count ≡ 0 → FitsIs file places lefts rights area n text e work dead c true
+  fits-alone i d z = record {
+    ends = λ _. ends i;
+    built = λ prefixes B s v _.
+        let k : s .stack ≡ [] = v .stack ∙ ap (stackOf work) z ∙ stack-nil work in
+        let f : true ≡ follows (dictionaryOf file) (s .stack) c = sym (ap (λ (K : List ℕ). follows (dictionaryOf file) K c) k) in
+        f ∙ and-true (follows (dictionaryOf file) (s .stack) c) _ (sym (end-bit s v i) ∙ d);
+  }
+
+  -- there is a code before it
+  pub fits-pair : (r : Bool) → e .pos + l ≤ length text → isSet dead (e .pos + l) ≡ true → (e .count ≡ 0 → ⊥) → PairIs file places lefts rights area n n (getD work (e .count - 1) 0) c r
+      → FitsIs file places lefts rights area n text e work dead c r
+  fits-pair r i d some p = record {
+    ends = λ _. ends i;
+    built = λ prefixes B s v _.
+        let f : r ≡ follows (dictionaryOf file) (s .stack) c =
+        pair-is file places lefts rights prefixes area n B (getD work (e .count - 1) 0) c r p
+        ∙ sym (ap (λ (K : List ℕ). follows (dictionaryOf file) K c) (v .stack ∙ stack-last work (e .count) some)) in
+        f ∙ and-true (follows (dictionaryOf file) (s .stack) c) _ (sym (end-bit s v i) ∙ d);
+  }

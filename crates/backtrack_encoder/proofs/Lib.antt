@@ -1,0 +1,10 @@
+pub mod Stack
+pub mod Sizes
+pub mod Fitting
+pub mod Trying
+pub mod Nexts
+pub mod Moves
+pub mod Stepping
+pub mod Running
+pub mod Limiting
+pub mod Copying

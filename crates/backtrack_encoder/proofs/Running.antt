@@ -1,0 +1,110 @@
+-- The run of an encoder: what is known after each step, and its codes at the end. Assumes nothing.
+use mathlib.Core.Path.{_≡_, refl, sym, ap, _∙_}
+use mathlib.Core.Logic.{_⊎_, ⊎-elim}
+use mathlib.Core.List.{List}
+use Prim.Native.Nat.{ℕ, suc, _-_, _*_, _≤_, _<_}
+use native.Mathlib.Omega.{arith}
+use lib.ListN.{length, drop}
+use lib.Seq.{length-take-le}
+use Rattle.theory.specs.Dictionary.{Dictionary}
+use Rattle.theory.specs.Merge.{encode}
+use Rattle.theory.specs.Backtracking.{codes, start, run}
+use Rattle.theory.proofs.Backtracking.{going-end, run-codes}
+use Rattle.placed_rows.specs.Rows.{none}
+use Rattle.bitfield.specs.Bits.{isSet, allSet}
+use Rattle.built.specs.Built.{Built, dictionaryOf}
+use Rattle.built.proofs.Rows.{octets, lawful-is, known}
+use Rattle.backtrack_encoder.specs.declared.BacktrackEncoder.{BacktrackEncoder}
+use Rattle.backtrack_encoder.specs.Encoder.{TextReady, EncoderReady, Shows}
+use Rattle.backtrack_encoder.specs.Steps.{Started, Stepped}
+use Rattle.backtrack_encoder.specs.Answers.{Backtracked, CountIs}
+use Rattle.backtrack_encoder.proofs.Stack.{stack-codes}
+use Rattle.backtrack_encoder.proofs.Sizes.{count-text}
+use Rattle.backtrack_encoder.proofs.Nexts.{Bytes}
+use Rattle.backtrack_encoder.proofs.Stepping.{shows-end, on-the-way}
+
+module _ (file places lefts rights prefixes area : List ℕ) (n : ℕ) (text entry : List ℕ) where
+  abbrev D : Dictionary
+  D = dictionaryOf file
+
+  -- the steps that are done, where so many of twice the length of the text are left
+  abbrev pub done : ℕ → ℕ
+  done left = 2 * length text - left
+
+  -- what is known with so many steps left; `entry` is the work buffer at the start
+  pub record Running (left : ℕ) (e : BacktrackEncoder) (work dead : List ℕ) : Type 0 where
+    pub text-ready : TextReady file places lefts rights prefixes area n text work
+    pub ready : EncoderReady file n text e work
+    pub kept : length work ≡ length entry
+    pub beyond : drop (length text) work ≡ drop (length text) entry
+    pub steps : left ≤ 2 * length text
+    pub shows : Built file places lefts rights prefixes area n → Shows D text e work dead (run D text (done left) (start D text))
+
+  pub running-start : (e : BacktrackEncoder) (dead : List ℕ) → TextReady file places lefts rights prefixes area n text entry
+      → Started file places area n text e → isSet dead ≡ allSet → Running (2 * length text) e entry dead
+  running-start e dead T S a = record {
+    text-ready = T;
+    ready = S .ready entry;
+    kept = refl;
+    beyond = refl;
+    steps = omega arith;
+    shows = λ B.
+        let z : done (2 * length text) ≡ 0 = omega arith in
+        let v : Shows D text e entry dead (run D text 0 (start D text)) = S .built lefts rights prefixes B entry dead a in
+        rw z v;
+  }
+
+  module _ (left : ℕ) (e : BacktrackEncoder) (work dead : List ℕ) (U : Running left e work dead) where
+    pub running-step : (r : BacktrackEncoder) (work' dead' : List ℕ) → 0 < left
+        → Stepped file places lefts rights prefixes area n text e work dead r work' dead' → Running (left - 1) r work' dead'
+    running-step r work' dead' some K = record {
+      text-ready = record { tables = U .text-ready .tables; short = U .text-ready .short; room = let q = U .text-ready .room in let l = K .work-length in omega arith };
+      ready = K .ready;
+      kept = K .work-length ∙ U .kept;
+      beyond = K .work-beyond ∙ U .beyond;
+      steps = let q = U .steps in omega arith;
+      shows = λ B. let q = U .steps in let z : done (left - 1) ≡ suc (done left) = omega arith in rw z (K .built B (done left) (U .shows B));
+    }
+
+    few : e .count ≤ length text
+    few = count-text file places n (U .text-ready .tables .places-ready) text e work (U .ready)
+
+    -- the codes at the end
+    pub running-end : Bytes text → (left ≡ 0) ⊎ (e .next ≡ none) → Backtracked file places lefts rights prefixes area n text entry (e .count) work
+    running-end b o = record {
+      few = few;
+      work-length = U .kept;
+      work-beyond = U .beyond;
+      codes = U .ready .codes;
+      built = λ B.
+          let q = U .text-ready .room in
+          let f = few in
+          sym (stack-codes work (e .count) (omega arith)) ∙ ap codes (sym (U .shows B .stack)) ∙ all B;
+    }
+      where
+        all : Built file places lefts rights prefixes area n → codes (run D text (done left) (start D text) .stack) ≡ encode D text
+        all B = ⊎-elim
+            (λ z. let q = U .steps in run-codes D (lawful-is file places lefts rights prefixes area n B) text (known file places lefts rights prefixes area n B text (octets text b)) (done left) (omega arith))
+            (λ z. going-end D text (run D text (done left) (start D text)) (on-the-way file places lefts rights prefixes area n text B b (done left))
+            (shows-end D text e work dead (run D text (done left) (start D text)) (U .shows B) z))
+            o
+
+-- the number of codes
+pub codes-count : (file places lefts rights prefixes area : List ℕ) (n : ℕ) (text work : List ℕ) (r : ℕ) (work' : List ℕ)
+    → TextReady file places lefts rights prefixes area n text work → Backtracked file places lefts rights prefixes area n text work r work'
+    → Built file places lefts rights prefixes area n → r ≡ length (encode (dictionaryOf file) text)
+codes-count file places lefts rights prefixes area n text work r work' T K B =
+    let f = K .few in
+    let m = T .room in
+    let l = K .work-length in
+    sym (length-take-le r work' (omega arith)) ∙ ap length (K .built B)
+
+pub counted-codes : (file places lefts rights prefixes area : List ℕ) (n : ℕ) (text work : List ℕ) (r : ℕ) (work' : List ℕ)
+    → TextReady file places lefts rights prefixes area n text work → Backtracked file places lefts rights prefixes area n text work r work'
+    → CountIs file places lefts rights prefixes area n text work r work'
+counted-codes file places lefts rights prefixes area n text work r work' T K = record {
+  few = K .few;
+  work-length = K .work-length;
+  work-beyond = K .work-beyond;
+  built = codes-count file places lefts rights prefixes area n text work r work' T K;
+}

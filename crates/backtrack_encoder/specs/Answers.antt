@@ -1,0 +1,55 @@
+-- What sending and counting by backtracking leave and answer. Assumes nothing.
+use mathlib.Core.Path.{_≡_}
+use mathlib.Core.List.{List, _++_}
+use Prim.Native.Nat.{ℕ, _≤_, _<_}
+use lib.ListN.{length, getD, take, drop}
+use Rattle.theory.specs.Merge.{encode}
+use Rattle.theory.specs.Backtracking as Backtracking
+use Rattle.built.specs.Built.{Built, dictionaryOf}
+use Rattle.backtrack_encoder.specs.declared.Limited.{Limited}
+use Rattle.backtrack_encoder.specs.declared.Limited.the-variants.{Counted, Over}
+use Rattle.backtrack_encoder.specs.Encoder.{TextReady}
+
+-- document 01's answer for each case of the enum: the count, or "over"
+abbrev pub limitedOf : Limited → Backtracking.Limited
+limitedOf (Counted n) = Backtracking.counted n
+limitedOf Over = Backtracking.over
+
+-- as TextReady, with an output that has one number per byte of the text
+pub record OutputReady (file places lefts rights prefixes area : List ℕ) (n : ℕ) (text out work : List ℕ) : Type 0 where
+  pub ready : TextReady file places lefts rights prefixes area n text work
+  pub out-room : length text ≤ length out
+
+module _ (file places lefts rights prefixes area : List ℕ) (n : ℕ) (text : List ℕ) where
+  -- the codes stand at the front of the work buffer, which is unchanged beyond the text's length
+  pub record Backtracked (work : List ℕ) (r : ℕ) (work' : List ℕ) : Type 0 where
+    pub few : r ≤ length text
+    pub work-length : length work' ≡ length work
+    pub work-beyond : drop (length text) work' ≡ drop (length text) work
+    pub codes : (i : ℕ) → i < r → getD work' i 0 < n
+    pub built : Built file places lefts rights prefixes area n → take r work' ≡ encode (dictionaryOf file) text
+
+  -- the merge procedure's codes stand at the front of the output, which is unchanged beyond them
+  pub record EncodedInto (out work : List ℕ) (r : ℕ) (out' work' : List ℕ) : Type 0 where
+    pub few : r ≤ length text
+    pub out-length : length out' ≡ length out
+    pub out-beyond : drop r out' ≡ drop r out
+    pub work-length : length work' ≡ length work
+    pub work-beyond : drop (length text) work' ≡ drop (length text) work
+    pub codes : (i : ℕ) → i < r → getD out' i 0 < n
+    pub count-is : Built file places lefts rights prefixes area n → r ≡ length (encode (dictionaryOf file) text)
+    pub codes-are : Built file places lefts rights prefixes area n
+        → out' ≡ encode (dictionaryOf file) text ++ drop (length (encode (dictionaryOf file) text)) out
+
+  -- the number of the merge procedure's codes
+  pub record CountIs (work : List ℕ) (r : ℕ) (work' : List ℕ) : Type 0 where
+    pub few : r ≤ length text
+    pub work-length : length work' ≡ length work
+    pub work-beyond : drop (length text) work' ≡ drop (length text) work
+    pub built : Built file places lefts rights prefixes area n → r ≡ length (encode (dictionaryOf file) text)
+
+  -- the count, or "over"
+  pub record LimitedIs (limit : ℕ) (work : List ℕ) (r : Limited) (work' : List ℕ) : Type 0 where
+    pub work-length : length work' ≡ length work
+    pub work-beyond : drop (length text) work' ≡ drop (length text) work
+    pub built : Built file places lefts rights prefixes area n → limitedOf r ≡ Backtracking.countTillLimit (dictionaryOf file) text limit

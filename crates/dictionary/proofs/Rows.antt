@@ -1,0 +1,99 @@
+-- The rows of a file that passes the checks, once their places are in a table. Assumes nothing.
+use mathlib.Core.Path.{_≡_, sym, ap, _∙_}
+use mathlib.Core.Logic.{⊎-elim}
+use mathlib.Core.List.{List, [], _++_}
+use Prim.Native.Nat.{ℕ, _≤_, _<_}
+use native.Mathlib.Omega.{arith}
+use lib.ListN.{length, length-append, length-drop, length-take, getD, take, drop, List·getD-eq-default}
+use lib.Seq.{getD-take, take-at, drop-at}
+use borrow.Author.Tests.{lt-ltb}
+use Rattle.causes.specs.declared.BuildAnswer.the-variants.{Rows}
+use Rattle.phrase_file.specs.Form.{places, rows}
+use Rattle.phrase_file.specs.Checks.{checkOf}
+use Rattle.phrase_file.specs.Post.{PlacesFit}
+use Rattle.phrase_file.proofs.Checks.{Accepted, accepted}
+use Rattle.phrase_file.proofs.Rows.{RowIs, row-is}
+use Rattle.placed_rows.specs.Rows.{row}
+use Rattle.placed_rows.proofs.Placing.{row-none}
+use Rattle.tables.specs.Ready.{PlacesReady}
+use Rattle.token_pair.specs.Pair.{Distinct}
+use Rattle.fnv.specs.Fnv.{rowHash}
+use Rattle.clashes.specs.Clashes.{firstClash, hashes}
+use Rattle.clashes.proofs.Laws.{clash-within, clash-none-rows}
+use Rattle.search_fill.specs.Filled.{Fillable}
+use Rattle.theory.proofs.Lists.{lt-or-ge}
+use Rattle.dictionary.specs.Build.{sameHash}
+
+module _ (file : List ℕ) (n : ℕ) (passed : checkOf file ≡ Rows n) where
+  checked : Accepted file n
+  checked = accepted file n passed
+
+  -- a table of n entries has room for the places
+  pub places-fit : (table : List ℕ) → n ≤ length table → PlacesFit file table
+  places-fit table h = record { short = checked .short; room = omega (arith, checked .count-places) }
+
+  -- the table after the places were written
+  module _ (table table' : List ℕ) (e : table' ≡ places file ++ drop (length (places file)) table) where
+    pub places-written : take n table' ≡ places file
+    places-written = ap (take n) e ∙ take-at (places file) (drop (length (places file)) table) n (sym (checked .count-places))
+
+    pub places-beyond : drop n table' ≡ drop n table
+    places-beyond = ap (drop n) e ∙ drop-at (places file) (drop (length (places file)) table) n (sym (checked .count-places)) ∙ ap (λ (k : ℕ). drop k table) (sym (checked .count-places))
+
+    pub places-length : n ≤ length table → length table' ≡ length table
+    places-length h =
+        ap length e ∙ length-append (places file) (drop (length (places file)) table) ∙ omega (arith, length-drop (length (places file)) table, checked .count-places)
+
+  module _ (table : List ℕ) (written : take n table ≡ places file) where
+    place-is : (c : ℕ) → c < n → getD table c 0 ≡ getD (places file) c 0
+    place-is c h = sym (getD-take n table c 0 h) ∙ ap (λ (l : List ℕ). getD l c 0) written
+
+    file-row : (c : ℕ) → c < n → RowIs file c
+    file-row c h = let e = checked .count in row-is file c (omega arith)
+
+    pub places-ready : PlacesReady file table n
+    unfolding row
+    places-ready = record {
+      count = checked .count;
+      least = checked .least;
+      placed = record {
+        few = checked .most;
+        places-fit = omega (arith, ap length written, length-take n table, checked .count-places);
+        inside = λ c h. let r = file-row c h in rw (place-is c h) (omega (arith, r .inside, r .size));
+      };
+      rows-are = λ c h. rw (lt-ltb c n h, row, place-is c h) (sym (file-row c h .bytes));
+      filled = λ c h. file-row c h .some;
+      short = λ c h. file-row c h .most;
+    }
+
+    -- a row as it is read, also from n on
+    row-read : (c : ℕ) → row file table n c ≡ getD (rows file) c []
+    row-read c = ⊎-elim
+        (places-ready .rows-are c)
+        (λ h. row-none file table n c h ∙ sym (List·getD-eq-default (rows file) [] {n = c} (let e = checked .count in omega arith)))
+        (lt-or-ge c n)
+
+    module _ (factor : ℕ) where
+      hash-is : hashes file table n factor ≡ (λ i. rowHash (getD (rows file) i []) factor)
+      hash-is = λ k i. rowHash (row-read i k) factor
+
+      pub clash-is : firstClash (hashes file table n factor) n ≡ sameHash file factor
+      unfolding sameHash
+      clash-is = ap (λ (f : ℕ → ℕ). firstClash f n) hash-is ∙ ap (firstClash (λ i. rowHash (getD (rows file) i []) factor)) (checked .count)
+
+      -- where no row has the hash of an earlier row, rows differ
+      module _ (none : n ≤ sameHash file factor) where
+        no-clash : firstClash (hashes file table n factor) n ≡ n
+        no-clash = omega (arith, clash-is, clash-within (hashes file table n factor) n)
+
+        pub distinct : Distinct file
+        distinct u v hu hv e =
+            let k = checked .count in
+            clash-none-rows file table n factor no-clash u v (omega arith) (omega arith) (row-read u ∙ e ∙ sym (row-read v))
+
+        pub fillable : Fillable (row file table n) n
+        fillable = record {
+          filled = λ c h. let f = places-ready .filled c h in omega (arith, ap length (row-read c));
+          short = λ c h. let f = places-ready .short c h in omega (arith, ap length (row-read c));
+          distinct = λ c d hc hd e. clash-none-rows file table n factor no-clash c d hc hd e;
+        }

@@ -1,0 +1,50 @@
+-- The steps of build: what each requires, and what it leaves. Assumes nothing.
+use mathlib.Core.Path.{_≡_}
+use mathlib.Core.List.{List}
+use mathlib.Core.Bool.{false}
+use Prim.Native.Nat.{ℕ, _≤_}
+use lib.ListN.{length, take, drop}
+use Rattle.causes.specs.declared.BuildAnswer.{BuildAnswer}
+use Rattle.causes.specs.declared.BuildAnswer.the-variants.{Rows}
+use Rattle.phrase_file.specs.Form.{places}
+use Rattle.phrase_file.specs.Checks.{checkOf}
+use Rattle.built.specs.Built.{Built}
+use Rattle.parts.specs.Parts.{RowsFound, PrefixesFound}
+use Rattle.dictionary.specs.Build.{Buffers, tooShort, sameHash, rowsAnswer, beyond}
+
+-- a file with n rows that passes 2 to 4, a factor other than 0, and buffers that are large enough
+pub record Buildable (file : List ℕ) (factor : ℕ) (b : Buffers) (n : ℕ) : Type 0 where
+  pub some-factor : factor ≡ 0 → ⊥
+  pub passed : checkOf file ≡ Rows n
+  pub room : tooShort b n ≡ false
+
+-- the same for the places, the prefixes and the search area alone
+pub record RowsFit (file placeTable prefixes area : List ℕ) (n : ℕ) : Type 0 where
+  pub passed : checkOf file ≡ Rows n
+  pub places-room : n ≤ length placeTable
+  pub prefixes-room : n ≤ length prefixes
+  pub area-room : 16384 ≤ length area
+
+-- the places, the prefixes and the search area are found for rows that differ
+pub record Searched (file placeTable prefixes area : List ℕ) (n : ℕ) : Type 0 where
+  pub places-are : take n placeTable ≡ places file
+  pub rows-found : RowsFound file placeTable area n
+  pub prefixes-found : PrefixesFound file placeTable prefixes n
+
+-- r is the lowest row with the hash of an earlier row; where there is none, places, prefixes and search area are found. What is beyond is unchanged
+pub record RowsFilled (file : List ℕ) (factor n : ℕ) (placeTable prefixes area placeTable' prefixes' area' : List ℕ) (r : ℕ) : Type 0 where
+  pub answer : r ≡ sameHash file factor
+  pub searched : n ≤ r → Searched file placeTable' prefixes' area' n
+  pub places-length : length placeTable' ≡ length placeTable
+  pub prefixes-length : length prefixes' ≡ length prefixes
+  pub area-length : length area' ≡ length area
+  pub places-beyond : drop n placeTable' ≡ drop n placeTable
+  pub prefixes-beyond : drop n prefixes' ≡ drop n prefixes
+  pub area-beyond : drop 16384 area' ≡ drop 16384 area
+
+-- the answer r, and buffers b' that are built if it is no refusal. What is beyond is unchanged
+pub record TablesFilled (file : List ℕ) (factor n : ℕ) (b b' : Buffers) (r : BuildAnswer) : Type 0 where
+  pub answer : r ≡ rowsAnswer file factor b n
+  pub built : (m : ℕ) → r ≡ Rows m → Built file (b' .places) (b' .lefts) (b' .rights) (b' .prefixes) (b' .area) m
+  pub room : tooShort b' n ≡ false
+  pub beyond-kept : beyond n b' ≡ beyond n b

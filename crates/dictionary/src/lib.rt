@@ -1,0 +1,168 @@
+// Build: from the phrase file to the tables and the search area.
+ghost use mathlib.Core.Path.{_≡_};
+ghost use mathlib.Core.Bool.{false};
+ghost use Prim.Native.Nat.{_≤_};
+ghost use lib.ListN.{length};
+ghost use Rattle.dictionary.specs.Build.{lent, tooShort, cleared, allCleared, BuildIs};
+ghost use Rattle.dictionary.specs.Steps.{Buildable, RowsFit, RowsFilled, TablesFilled};
+use causes::BuildAnswer;
+use causes::Cause;
+use placed_rows::NONE;
+
+// The size of the search area.
+const AREA: usize = 16384;
+
+// Whether a table has fewer than n entries, or the search area fewer than it needs.
+fn are_short(
+    n: usize,
+    places: &[u32],
+    lefts: &[u32],
+    rights: &[u32],
+    prefixes: &[u32],
+    area: &[u32],
+) -> bool
+    ensures { λ r. ⌜ r ≡ tooShort (lent (now (places .entry)) (now (lefts .entry)) (now (rights .entry)) (now (prefixes .entry)) (now (area .entry))) n ⌝ }
+{
+    if places.len() < n {
+        return true;
+    }
+    if lefts.len() < n {
+        return true;
+    }
+    if rights.len() < n {
+        return true;
+    }
+    if prefixes.len() < n {
+        return true;
+    }
+    area.len() < AREA
+}
+
+// The first `size` entries become NONE.
+fn clear(table: &mut [u32], size: usize)
+    requires { ⌜ size ≤ length (now table) ⌝ }
+    ensures { λ r. ⌜ now (table .exit) ≡ cleared size (now (table .entry)) ⌝ }
+{
+    let mut i = 0;
+    while i < size {
+        table[i] = NONE;
+        i += 1;
+    }
+}
+
+// The first n entries of each table and the search area become NONE.
+fn clear_all(
+    n: usize,
+    places: &mut [u32],
+    lefts: &mut [u32],
+    rights: &mut [u32],
+    prefixes: &mut [u32],
+    area: &mut [u32],
+)
+    requires { ⌜ tooShort (lent (now places) (now lefts) (now rights) (now prefixes) (now area)) n ≡ false ⌝ }
+    ensures { λ r. ⌜ lent (now (places .exit)) (now (lefts .exit)) (now (rights .exit)) (now (prefixes .exit)) (now (area .exit)) ≡ allCleared n (lent (now (places .entry)) (now (lefts .entry)) (now (rights .entry)) (now (prefixes .entry)) (now (area .entry))) ⌝ }
+{
+    clear(places, n);
+    clear(lefts, n);
+    clear(rights, n);
+    clear(prefixes, n);
+    clear(area, AREA);
+}
+
+// Writes the places, looks for two rows with one hash and, where there are none, fills the prefixes and the search area.
+// Says which row is the lowest with the hash of an earlier row, n where there is none.
+fn fill_rows(
+    file: &[u8],
+    factor: u64,
+    n: usize,
+    places: &mut [u32],
+    prefixes: &mut [u32],
+    area: &mut [u32],
+) -> usize
+    requires { ⌜ RowsFit (now file) (now places) (now prefixes) (now area) n ⌝ }
+    ensures { λ r. ⌜ RowsFilled (now (file .entry)) factor n (now (places .entry)) (now (prefixes .entry)) (now (area .entry)) (now (places .exit)) (now (prefixes .exit)) (now (area .exit)) r ⌝ }
+{
+    phrase_file::fill_places(file, places);
+    let clash = clashes::first_clash(file, places, n, factor, area);
+    if clash < n {
+        return clash;
+    }
+    search_fill::fill(file, places, n, prefixes, area);
+    clash
+}
+
+// Fills the tables and the search area of a file that passes the checks, or refuses it by 5 or 6.
+fn fill_tables(
+    file: &[u8],
+    factor: u64,
+    n: usize,
+    places: &mut [u32],
+    lefts: &mut [u32],
+    rights: &mut [u32],
+    prefixes: &mut [u32],
+    area: &mut [u32],
+) -> BuildAnswer
+    requires { ⌜ Buildable (now file) factor (lent (now places) (now lefts) (now rights) (now prefixes) (now area)) n ⌝ }
+    ensures { λ r. ⌜ TablesFilled (now (file .entry)) factor n (lent (now (places .entry)) (now (lefts .entry)) (now (rights .entry)) (now (prefixes .entry)) (now (area .entry))) (lent (now (places .exit)) (now (lefts .exit)) (now (rights .exit)) (now (prefixes .exit)) (now (area .exit))) r ⌝ }
+{
+    let same_hash = fill_rows(file, factor, n, places, prefixes, area);
+    if same_hash < n {
+        return BuildAnswer::Refused(Cause::SameHash(same_hash as u32));
+    }
+    let without = parts::fill_parts(file, places, lefts, rights, prefixes, area, n);
+    if without < n {
+        return BuildAnswer::Refused(Cause::NoParts(without as u32));
+    }
+    BuildAnswer::Rows(n)
+}
+
+// The same, and a refusal leaves NONE in the tables and in the search area.
+fn build_rows(
+    file: &[u8],
+    factor: u64,
+    n: usize,
+    places: &mut [u32],
+    lefts: &mut [u32],
+    rights: &mut [u32],
+    prefixes: &mut [u32],
+    area: &mut [u32],
+) -> BuildAnswer
+    requires { ⌜ Buildable (now file) factor (lent (now places) (now lefts) (now rights) (now prefixes) (now area)) n ⌝ }
+    ensures { λ r. ⌜ BuildIs (now (file .entry)) factor (lent (now (places .entry)) (now (lefts .entry)) (now (rights .entry)) (now (prefixes .entry)) (now (area .entry))) (lent (now (places .exit)) (now (lefts .exit)) (now (rights .exit)) (now (prefixes .exit)) (now (area .exit))) r ⌝ }
+{
+    let answer = fill_tables(file, factor, n, places, lefts, rights, prefixes, area);
+    match answer {
+        BuildAnswer::Rows(count) => BuildAnswer::Rows(count),
+        BuildAnswer::Refused(cause) => {
+            clear_all(n, places, lefts, rights, prefixes, area);
+            BuildAnswer::Refused(cause)
+        }
+    }
+}
+
+// Fills the tables and the search area from a phrase file, and answers with the count of rows; or refuses the file.
+pub fn from_dictionary(
+    file: &[u8],
+    factor: u64,
+    places: &mut [u32],
+    lefts: &mut [u32],
+    rights: &mut [u32],
+    prefixes: &mut [u32],
+    area: &mut [u32],
+) -> BuildAnswer
+    ensures { λ r. ⌜ BuildIs (now (file .entry)) factor (lent (now (places .entry)) (now (lefts .entry)) (now (rights .entry)) (now (prefixes .entry)) (now (area .entry))) (lent (now (places .exit)) (now (lefts .exit)) (now (rights .exit)) (now (prefixes .exit)) (now (area .exit))) r ⌝ }
+{
+    if factor == 0 {
+        return BuildAnswer::Refused(Cause::FactorZero);
+    }
+    let checked = phrase_file::check_file(file);
+    match checked {
+        BuildAnswer::Refused(cause) => BuildAnswer::Refused(cause),
+        BuildAnswer::Rows(n) => {
+            if are_short(n, places, lefts, rights, prefixes, area) {
+                return BuildAnswer::Refused(Cause::TooShort);
+            }
+            build_rows(file, factor, n, places, lefts, rights, prefixes, area)
+        }
+    }
+}

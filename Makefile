@@ -2,7 +2,8 @@
 .PHONY: demo test
 
 demo:
-	@rt check > /dev/null
+	@echo "proving the crates (some minutes from nothing) ..."
+	@rt check > /dev/null || { echo "rt check failed: run it to see where"; exit 1; }
 	@for program in bitfield_edges fnv_vectors phrase_file_edges; do \
 		echo "== $$program"; target/bin/$$program || exit 1; \
 	done

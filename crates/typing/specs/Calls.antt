@@ -1,0 +1,46 @@
+-- What the typing calls answer, and what they leave in the head and in the records: document 01, "Typing and intervals". Assumes nothing.
+use mathlib.Core.Path.{_≡_}
+use mathlib.Core.Option.{none, some}
+use mathlib.Core.List.{List, _++_}
+use mathlib.Core.Bool.{Bool}
+use Prim.Native.Nat.{ℕ, _+_, _<_, min}
+use lib.ListN.{length, getD, take, drop}
+use Rattle.theory.specs.Typing as Typing
+use Rattle.causes.specs.declared.Cause.{Cause}
+use Rattle.tables.specs.InForm.{formOf}
+use Rattle.tables.specs.declared.Answer.{Answer}
+use Rattle.answers.specs.Answers.{answered}
+use Rattle.built.specs.Built.{dictionaryOf, Built}
+use Rattle.typing_core.specs.Refusals.{extendRefusal, tokenCountRefusal, truncateRefusal}
+use Rattle.typing_core.specs.Columns.{lastCount, FormOf}
+use Rattle.typing.specs.declared.State.{State}
+use Rattle.typing.specs.Records.{noState, entryOf, bytesOf, codesOf, countsOf}
+
+module _ (file placeTable lefts rights prefixes area : List ℕ) (side : Typing.Side) where
+  -- push (with the one byte as `typed`) and extend: the answer is the new length. Only the records added and the head's length are written; over tables that a build
+  -- left the records added are those of the bytes typed so far. A refusal changes nothing
+  pub record Extended (len : ℕ) (states : List State) (typed : List ℕ) (r : Answer) (len' : ℕ) (states' : List State) : Type 0 where
+    pub fine : Bool
+    pub form : FormOf file placeTable lefts rights prefixes area side len (length states) (bytesOf states) (codesOf states) (countsOf states) fine
+    pub answer : r ≡ answered (extendRefusal (formOf file placeTable lefts rights prefixes area) len (length states) fine typed) (len + length typed)
+    pub refused : (cause : Cause) → extendRefusal (formOf file placeTable lefts rights prefixes area) len (length states) fine typed ≡ some cause
+        → (len' ≡ len) × (states' ≡ states)
+    pub longer : extendRefusal (formOf file placeTable lefts rights prefixes area) len (length states) fine typed ≡ none → len' ≡ len + length typed
+    pub size-kept : length states' ≡ length states
+    pub before-kept : take len states' ≡ take len states
+    pub beyond-kept : drop len' states' ≡ drop len' states
+    pub built : (n : ℕ) → Built file placeTable lefts rights prefixes area n
+        → extendRefusal (formOf file placeTable lefts rights prefixes area) len (length states) fine typed ≡ none → (k : ℕ) → k < length typed
+        → entryOf (getD states' (len + k) noState) ≡ Typing.entryAt (dictionaryOf file) side (take len (bytesOf states) ++ typed) (len + k)
+
+  -- `token_count`: the last record's count, 0 at length 0
+  pub record TokenCounted (len : ℕ) (states : List State) (r : Answer) : Type 0 where
+    pub fine : Bool
+    pub form : FormOf file placeTable lefts rights prefixes area side len (length states) (bytesOf states) (codesOf states) (countsOf states) fine
+    pub answer : r ≡ answered (tokenCountRefusal (formOf file placeTable lefts rights prefixes area) len (length states) fine) (lastCount (countsOf states) len)
+
+-- truncate: the head's length, if it is in form, becomes the lesser of it and what is to be kept, and that is the answer. `size` is the number of records of the slice
+pub record Truncated (len size keep : ℕ) (r : Answer) (len' : ℕ) : Type 0 where
+  pub answer : r ≡ answered (truncateRefusal len size) (min len keep)
+  pub refused : (cause : Cause) → truncateRefusal len size ≡ some cause → len' ≡ len
+  pub shorter : truncateRefusal len size ≡ none → len' ≡ min len keep

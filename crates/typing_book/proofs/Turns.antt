@@ -1,0 +1,191 @@
+-- One call of a list: from slice and head that hold typed bytes to slice and head that hold those of the book after the call. Assumes nothing.
+use mathlib.Core.Path.{_≡_, refl, sym, ap, _∙_}
+use mathlib.Core.Logic.{⊎-elim}
+use mathlib.Core.Option.{Option, none, some}
+use mathlib.Core.List.{List, [], _∷_, _++_}
+use mathlib.Core.Bool.{Bool, true, false, _||_}
+use Prim.Native.Nat.{ℕ, _+_, _-_, _≤_, _<_, min}
+use native.Mathlib.Omega.{arith}
+use lib.ListN.{length, getD, take, drop, length-append, length-take}
+use lib.Seq.{getD-take}
+use lib.Dec.{ltb}
+use borrow.Author.Tests.{ltb-false}
+use Rattle.theory.specs.Dictionary.{Dictionary, Octets}
+use Rattle.theory.specs.Typing.{Side, inOrder, entryAt}
+use Rattle.theory.proofs.Lists.{lt-or-ge}
+use Rattle.theory.proofs.Sides.{length-inOrder}
+use Rattle.theory.proofs.Typing.{entryAt-append, entryAt-take}
+use Rattle.causes.specs.declared.Cause.{Cause}
+use Rattle.causes.specs.declared.Cause.the-variants.{TooLong, Full}
+use Rattle.tables.specs.InForm.{formOf}
+use Rattle.tables.specs.declared.Answer.{Answer}
+use Rattle.answers.specs.Answers.{answered}
+use Rattle.answers.specs.Refusals.{when, over}
+use Rattle.built.specs.Built.{dictionaryOf, Built}
+use Rattle.typing_core.specs.Refusals.{full, extendRefusal, tokenCountRefusal, truncateRefusal}
+use Rattle.typing.specs.declared.State.{State}
+use Rattle.typing.specs.Records.{noState, entryOf}
+use Rattle.typing.specs.Calls.{Extended, TokenCounted, Truncated}
+use Rattle.typing_book.specs.Book.{Call, push, extend, truncate, tokenCount, kept, unless, bookRefusal, turned, bookAfter, bookAnswer}
+use Rattle.typing_book.specs.Run.{Lent, OctetCall, Ensured}
+use Rattle.typing_book.proofs.Texts.{octets-append, octets-take, added-is, kept-is}
+use Rattle.typing_book.proofs.Standing.{Standing, typed-are, truncate-passes, extend-by-length, token-count-passes, last-count}
+
+-- where 9 and 12 do not apply, the bytes stay within the slice and 4,096
+no-cause : (a b c : Bool) (x y : Cause) → when a x (when (b || c) y none) ≡ none → (b ≡ false) × (c ≡ false)
+no-cause true b c x y e = let z : _≡_ {A = ℕ} 0 1 = cc in absurd (omega arith)
+no-cause false true c x y e = let z : _≡_ {A = ℕ} 0 1 = cc in absurd (omega arith)
+no-cause false false true x y e = let z : _≡_ {A = ℕ} 0 1 = cc in absurd (omega arith)
+no-cause false false false x y e = (refl, refl)
+
+within : (book : List ℕ) (size : ℕ) (typed : List ℕ) → bookRefusal size book (extend typed) ≡ none
+    → (length book + length typed ≤ size) × (length book + length typed ≤ 4096)
+within book size typed e =
+    let end = length book + length typed in
+    let f = no-cause (over typed) (ltb size end) (ltb 4096 end) TooLong (Full (length book)) e in
+    (ltb-false size end (f .0), ltb-false 4096 end (f .1))
+
+-- the same refusal and the same number give the same answer
+same-answer : {x y : Option Cause} {k l : ℕ} → x ≡ y → k ≡ l → answered x k ≡ answered y l
+same-answer e f = rw (e, f)
+
+-- what a call leaves and answers: typed bytes whose text is the book after it
+pub record Turned (D : Dictionary) (side : Side) (size : ℕ) (s : List ℕ) (m : Lent) (call : Call) (r : Answer) (m' : Lent) : Type 0 where
+  pub text : List ℕ
+  pub book : inOrder side text ≡ bookAfter side size (inOrder side s) call
+  pub standing : Standing D side size m' text
+  pub answer : r ≡ bookAnswer D side size (inOrder side s) call
+  pub beyond : drop (m' .len) (m' .states) ≡ drop (m' .len) (m .states)
+
+module _ (file placeTable lefts rights prefixes area : List ℕ) (n : ℕ) (B : Built file placeTable lefts rights prefixes area n)
+    (side : Side) (size : ℕ) (m : Lent) (s : List ℕ) (S : Standing (dictionaryOf file) side size m s) (r : Answer) (m' : Lent) where
+  abbrev D : Dictionary
+  D = dictionaryOf file
+
+  abbrev book : List ℕ
+  book = inOrder side s
+
+  -- push, as extend by its one byte, and extend
+  module _ (typed : List ℕ) (o : Octets typed) (X : Extended file placeTable lefts rights prefixes area side (m .len) (m .states) typed r (m' .len) (m' .states)) where
+    abbrev refusal : Option Cause
+    refusal = extendRefusal (formOf file placeTable lefts rights prefixes area) (m .len) (length (m .states)) (X .fine) typed
+
+    by-book : refusal ≡ bookRefusal size book (extend typed)
+    by-book = extend-by-length file placeTable lefts rights prefixes area n B side size m s S (X .fine) (X .form) typed
+        ∙ ap (λ (k : ℕ). when (over typed) TooLong (when (full k size typed) (Full k) none)) (sym (length-inOrder side s))
+
+    longer : m .len + length typed ≡ length (turned side book (extend typed))
+    longer = omega (arith, ap length (added-is side s typed), length-inOrder side (s ++ typed), length-append s typed, S .len)
+
+    answer-is : r ≡ bookAnswer D side size book (extend typed)
+    unfolding bookAnswer
+    answer-is = X .answer ∙ same-answer by-book longer
+
+    refused : (cause : Cause) → refusal ≡ some cause → Turned D side size s m (extend typed) r m'
+    unfolding bookAfter bookAnswer
+    refused cause e =
+        let f : bookRefusal size book (extend typed) ≡ some cause = sym by-book ∙ e in
+        let same = X .refused cause e in
+        record {
+          text = s;
+          book = sym (ap (λ (x : Option Cause). unless x book (turned side book (extend typed))) f);
+          standing = record {
+            octets = S .octets;
+            few = S .few;
+            fits = S .fits;
+            len = same .0 ∙ S .len;
+            size-is = X .size-kept ∙ S .size-is;
+            records = λ i h. ap (λ (l : List State). entryOf (getD l i noState)) (same .1) ∙ S .records i h;
+          };
+          answer = answer-is;
+          beyond = X .beyond-kept;
+        }
+
+    passed : refusal ≡ none → Turned D side size s m (extend typed) r m'
+    unfolding bookAfter bookAnswer
+    passed e = record {
+      text = s ++ typed;
+      book = sym (added-is side s typed) ∙ sym (ap (λ (x : Option Cause). unless x book (turned side book (extend typed))) f);
+      standing = record {
+        octets = octets-append s typed (S .octets) o;
+        few = rw (length-append s typed) (room .1);
+        fits = rw (length-append s typed) (room .0);
+        len = omega (arith, X .longer e, S .len, length-append s typed);
+        size-is = X .size-kept ∙ S .size-is;
+        records = λ i h. ⊎-elim (earlier i) (later i h) (lt-or-ge i (length s));
+      };
+      answer = answer-is;
+      beyond = X .beyond-kept;
+    }
+      where
+        f : bookRefusal size book (extend typed) ≡ none
+        f = sym by-book ∙ e
+
+        room : (length s + length typed ≤ size) × (length s + length typed ≤ 4096)
+        room = rw (length-inOrder side s) at (within book size typed f)
+
+        earlier : (i : ℕ) → i < length s → entryOf (getD (m' .states) i noState) ≡ entryAt D side (s ++ typed) i
+        earlier i h =
+            let l : i < m .len = omega (arith, S .len) in
+            ap entryOf (sym (getD-take (m .len) (m' .states) i noState l) ∙ ap (λ (l : List State). getD l i noState) (X .before-kept) ∙ getD-take (m .len) (m .states) i noState l)
+            ∙ S .records i h
+            ∙ sym (entryAt-append D side s typed i h)
+
+        later : (i : ℕ) → i < length (s ++ typed) → length s ≤ i → entryOf (getD (m' .states) i noState) ≡ entryAt D side (s ++ typed) i
+        later i h l =
+            let k : i ≡ m .len + (i - m .len) = omega (arith, S .len) in
+            ap (λ (j : ℕ). entryOf (getD (m' .states) j noState)) k
+            ∙ X .built n B e (i - m .len) (omega (arith, S .len, length-append s typed))
+            ∙ ap (λ (t : List ℕ). entryAt D side (t ++ typed) (m .len + (i - m .len))) (typed-are D side size m s S)
+            ∙ ap (entryAt D side (s ++ typed)) (sym k)
+
+    extend-turned : Turned D side size s m (extend typed) r m'
+    extend-turned = go refusal refl
+      where
+        go : (x : Option Cause) → refusal ≡ x → Turned D side size s m (extend typed) r m'
+        go none e = passed e
+        go (some cause) e = refused cause e
+
+  truncate-turned : (k : ℕ) → Truncated (m .len) (length (m .states)) k r (m' .len) → m' .states ≡ m .states → Turned D side size s m (truncate k) r m'
+  unfolding bookAfter bookAnswer
+  truncate-turned k T e = record {
+    text = take k s;
+    book = sym (kept-is side k s);
+    standing = record {
+      octets = octets-take k s (S .octets);
+      few = omega (arith, length-take k s, S .few);
+      fits = omega (arith, length-take k s, S .fits);
+      len = omega (arith, T .shorter passes, S .len, length-take k s);
+      size-is = ap length e ∙ S .size-is;
+      records = λ i h. ap (λ (l : List State). entryOf (getD l i noState)) e ∙ S .records i (omega (arith, length-take k s)) ∙ sym (entryAt-take D side s k i (omega (arith, length-take k s)));
+    };
+    answer = T .answer ∙ same-answer passes kept-length;
+    beyond = ap (drop (m' .len)) e;
+  }
+    where
+      passes : truncateRefusal (m .len) (length (m .states)) ≡ none
+      passes = truncate-passes D side size m s S
+
+      kept-length : min (m .len) k ≡ length (kept side k book)
+      kept-length = omega (arith, ap length (kept-is side k s), length-inOrder side (take k s), length-take k s, S .len)
+
+  token-count-turned : TokenCounted file placeTable lefts rights prefixes area side (m .len) (m .states) r → m' ≡ m → Turned D side size s m tokenCount r m'
+  unfolding bookAfter bookAnswer
+  token-count-turned T e = record {
+    text = s;
+    book = refl;
+    standing = rw e S;
+    answer = T .answer ∙ same-answer passes (last-count file placeTable lefts rights prefixes area n B side size m s S);
+    beyond = rw e;
+  }
+    where
+      passes : tokenCountRefusal (formOf file placeTable lefts rights prefixes area) (m .len) (length (m .states)) (T .fine) ≡ none
+      passes = token-count-passes file placeTable lefts rights prefixes area n B side size m s S (T .fine) (T .form)
+
+  -- each call, by what its contract ensures
+  pub turn : (call : Call) → OctetCall call → Ensured file placeTable lefts rights prefixes area side call m r m' → Turned D side size s m call r m'
+  unfolding bookAfter bookAnswer
+  turn (push byte) o X = let t = extend-turned (byte ∷ []) o X in record { text = t .text; book = t .book; standing = t .standing; answer = t .answer; beyond = t .beyond }
+  turn (extend bytes) o X = extend-turned bytes o X
+  turn (truncate k) o X = truncate-turned k (X .0) (X .1)
+  turn tokenCount o X = token-count-turned (X .0) (X .1)

@@ -1,0 +1,255 @@
+"""Document 01 in Python, written from its text alone: a second source for the expected output of the sample programs.
+
+Slow and plain on purpose. Nothing here is taken from the Rattle code or from the Rust.
+"""
+
+NONE = 4294967295
+MOD = 2 ** 64
+
+
+# ---- the file form
+
+def record(row):
+    return bytes([0xC7, 0x51, len(row)]) + row
+
+
+def write_file(rows):
+    return b"".join(record(row) for row in rows)
+
+
+def check_file(file):
+    """Causes 2, 3 and 4: (cause, place), or (0, n) with the rows and their places."""
+    if len(file) > 65536:
+        return (2, 65536), [], []
+    rows, places, at = [], [], 0
+    while at < len(file):
+        size = file[at + 2] if at + 2 < len(file) else 0
+        whole = file[at:at + 2] == b"\xc7\x51" and 1 <= size <= 64 and at + 3 + size <= len(file)
+        if not whole:
+            return (2, at), [], []
+        rows.append(file[at + 3:at + 3 + size])
+        places.append(at)
+        at += 3 + size
+    if not 256 <= len(rows) <= 4096:
+        return (3, len(rows)), [], []
+    for byte in range(256):
+        if bytes([byte]) not in rows:
+            return (4, byte), [], []
+    return (0, len(rows)), rows, places
+
+
+# ---- building
+
+def row_hash(row, factor):
+    value = 0xCBF29CE484222325
+    for octet in len(row).to_bytes(8, "little") + row:
+        value = (value ^ octet) * 0x100000001B3 % MOD
+    return value * factor % MOD >> 32
+
+
+class Dictionary:
+    def __init__(self, rows):
+        self.rows = rows
+        self.number = {}
+        for c, row in enumerate(rows):
+            self.number.setdefault(row, c)
+        self.parts = []
+
+    def prefix(self, c):
+        row = self.rows[c]
+        for size in range(len(row) - 1, 0, -1):
+            if row[:size] in self.number:
+                return self.number[row[:size]]
+        return NONE
+
+    def seam(self, limit):
+        return {parts: w for w, parts in enumerate(self.parts[:limit]) if len(self.rows[w]) > 1}
+
+    def passes(self, u, v, limit=None):
+        """The pair check over the rows below the limit."""
+        listed = self.seam(len(self.rows) if limit is None else limit)
+        last, low_is_left = None, None
+        first = True
+        while True:
+            w = listed.get((u, v))
+            if w is not None:
+                if first:
+                    return False
+                # a lower row, or the same row further left
+                if w < last or (w == last and low_is_left):
+                    return False
+            first = False
+            left_long, right_long = len(self.rows[u]) > 1, len(self.rows[v]) > 1
+            if not left_long and not right_long:
+                return True
+            # undo the part with the higher number, the right one if both are the same row; a single byte cannot be undone
+            undo_right = right_long and (not left_long or v >= u)
+            if undo_right:
+                last, low_is_left, v = v, True, self.parts[v][0]
+            else:
+                last, low_is_left, u = u, False, self.parts[u][1]
+
+    def find_parts(self, w):
+        row = self.rows[w]
+        if len(row) == 1:
+            return (w, w)
+        for size in range(len(row) - 1, 0, -1):
+            u, v = self.number.get(row[:size]), self.number.get(row[size:])
+            if u is None or v is None or u >= w or v >= w:
+                continue
+            if self.passes(u, v, w):
+                return (u, v)
+        return None
+
+
+def build(file, factor, sizes=(4096, 4096, 4096, 4096, 16384)):
+    """(cause, place) and the dictionary, None if refused."""
+    if factor == 0:
+        return (1, 0), None
+    answer, rows, places = check_file(file)
+    if answer[0]:
+        return answer, None
+    n = len(rows)
+    if min(sizes[:4]) < n or sizes[4] < 16384:
+        return (7, 0), None
+    seen = set()
+    for c, row in enumerate(rows):
+        h = row_hash(row, factor)
+        if h in seen:
+            return (5, c), None
+        seen.add(h)
+    d = Dictionary(rows)
+    for w in range(n):
+        parts = d.find_parts(w)
+        if parts is None:
+            return (6, w), None
+        d.parts.append(parts)
+    d.places = places
+    return (0, n), d
+
+
+# ---- sending and counting
+
+def merge(d, text):
+    codes = [d.number[bytes([b])] for b in text]
+    while True:
+        best = None
+        for i in range(len(codes) - 1):
+            w = d.number.get(d.rows[codes[i]] + d.rows[codes[i + 1]])
+            if w is not None and (best is None or w < best[0]):
+                best = (w, i)
+        if best is None:
+            return codes
+        w, i = best
+        codes[i:i + 2] = [w]
+
+
+def rows_at(d, text, at):
+    """All rows that begin there, longest first."""
+    return [d.number[text[at:at + size]] for size in range(min(64, len(text) - at), 0, -1) if text[at:at + size] in d.number]
+
+
+def greedy(d, text):
+    codes, at = [], 0
+    while at < len(text):
+        codes.append(rows_at(d, text, at)[0])
+        at += len(d.rows[codes[-1]])
+    return codes
+
+
+def shortest(d, text):
+    """Fewest codes; among those the longest first row, then the longest second, and so on."""
+    best = [None] * len(text) + [[]]
+    for at in range(len(text) - 1, -1, -1):
+        for c in rows_at(d, text, at):
+            rest = best[at + len(d.rows[c])]
+            if best[at] is None or len(rest) + 1 < len(best[at]):
+                best[at] = [c] + rest
+    return best[0]
+
+
+def steps(d, text):
+    """Backtracking by document 01's steps: the code list after each step."""
+    stack, place, dead = [], 0, set()
+    to_try = rows_at(d, text, 0)
+    while place < len(text):
+        fit = None
+        for c in to_try:
+            end = place + len(d.rows[c])
+            if end not in dead and (not stack or d.passes(stack[-1], c)):
+                fit = c
+                break
+        if fit is not None:
+            stack.append(fit)
+            place += len(d.rows[fit])
+            to_try = rows_at(d, text, place)
+        else:
+            dead.add(place)
+            last = stack.pop()
+            place -= len(d.rows[last])
+            to_try = rows_at(d, text, place)
+            to_try = to_try[to_try.index(last):]
+        yield list(stack), place == len(text)
+
+
+def backtrack(d, text):
+    codes = []
+    for codes, _ in steps(d, text):
+        pass
+    return codes
+
+
+def count_till_limit(d, text, limit):
+    codes = []
+    for codes, finished in steps(d, text):
+        if not finished and len(codes) > min(limit + 10, MOD - 1):
+            return NONE
+    return NONE if len(codes) > limit else len(codes)
+
+
+def decode(d, codes):
+    return b"".join(d.rows[c] for c in codes)
+
+
+def interval_tables(d, text):
+    """Last code, tree number, tree end and depth of each prefix."""
+    m = len(text)
+    codes = [merge(d, text[:i]) for i in range(m + 1)]
+    parent = [None] + [i - len(d.rows[codes[i][-1]]) for i in range(1, m + 1)]
+    children = [[i for i in range(1, m + 1) if parent[i] == p] for p in range(m + 1)]
+    number, end = [0] * (m + 1), [0] * (m + 1)
+    def visit(p, at):
+        number[p] = at
+        at += 1
+        for c in children[p]:
+            at = visit(c, at)
+        end[p] = at
+        return at
+    visit(0, 0)
+    return [c[-1] for c in codes[1:]], number, end, [len(c) for c in codes]
+
+
+# ---- document 01's sample files
+
+B = [bytes([b]) for b in range(256)]
+E = B + [b"bc", b"ab", b"cd"]
+F = B + [b"aa"]
+G = [b"ab"] + B + [b"bc", b"bcd"]
+
+
+def check_samples():
+    e, f = build(write_file(E), 1)[1], build(write_file(F), 1)[1]
+    assert merge(e, b"abcd") == [97, 256, 100]                      # P1
+    assert shortest(e, b"abcd") == [257, 258]                       # P2
+    assert greedy(e, b"abcd") == [257, 258]                         # P3
+    assert [len(merge(e, b"abcd"[:i])) for i in range(1, 5)] == [1, 1, 2, 3]        # P4
+    assert [len(merge(e, b"abcd"[-i:])) for i in range(1, 5)] == [1, 1, 2, 3]       # P5
+    assert len(merge(e, b"bcd")) == 2 and merge(e, b"") == []       # P6, P7
+    assert merge(f, b"aaa") == [256, 97]                            # P8
+    assert not f.passes(97, 256) and f.passes(256, 97)              # P9, P10
+    assert build(write_file(G), 1)[0] == (6, 0)
+
+
+if __name__ == "__main__":
+    check_samples()
+    print("the samples of document 01 hold in the model")

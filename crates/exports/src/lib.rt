@@ -1,0 +1,144 @@
+// The C interface: every public call under the name `bpe_` and the call's name. A slice arrives as a pointer and a length in elements.
+// Each returns one number: the cause's number (0 for an answer) times 2^32, plus the place or the answer's number.
+ghost use mathlib.Core.Path.{_≡_};
+ghost use Rattle.causes.specs.Causes.{buildAnswerOf};
+ghost use Rattle.causes.specs.declared.BuildAnswer.{BuildAnswer};
+ghost use Rattle.tables.specs.declared.Answer.{Answer};
+ghost use Rattle.tables.specs.Answers.{numTokensOf, tokenLenOf};
+ghost use Rattle.answers.specs.Answers.{answerOf};
+ghost use Rattle.pair_check.specs.declared.PairAnswer.{PairAnswer};
+ghost use Rattle.pair_check.specs.Pair.{PairChecked};
+ghost use Rattle.dictionary.specs.Build.{lent, BuildIs};
+ghost use Rattle.exports.specs.Packed.{packed, packedOf, pairAnswerOf, Packs};
+use causes::BuildAnswer;
+use pair_check::PairAnswer;
+use tables::Answer;
+
+// A cause's number and its place in one number.
+pub fn pack(number: u32, place: u64) -> u64
+    ensures { λ r. ⌜ r ≡ packed number place ⌝ }
+{
+    let high = number as u64 * 4294967296;
+    if place < 4294967295 {
+        return high + place;
+    }
+    high + 4294967295
+}
+
+// An answer that is a number or a refusal.
+fn pack_answer(answer: Answer) -> u64
+    ensures { λ r. ⌜ r ≡ packedOf (answerOf answer) ⌝ }
+{
+    pack(
+        answers::answer_number(answer),
+        answers::answer_place(answer),
+    )
+}
+
+// An answer of build.
+fn pack_build_answer(answer: BuildAnswer) -> u64
+    ensures { λ r. ⌜ r ≡ packedOf (buildAnswerOf answer) ⌝ }
+{
+    pack(
+        causes::build_answer_number(answer),
+        causes::build_answer_place(answer),
+    )
+}
+
+// The number of an answer of the pair check: 0 if it is no refusal.
+fn pair_answer_number(answer: PairAnswer) -> u32
+    ensures { λ r. ⌜ r ≡ pairAnswerOf answer .number ⌝ }
+{
+    match answer {
+        PairAnswer::Passes(_) => 0,
+        PairAnswer::Refused(cause) => causes::cause_number(cause),
+    }
+}
+
+// The place of an answer of the pair check: 1 if it passes, 0 if it does not.
+fn pair_answer_place(answer: PairAnswer) -> u64
+    ensures { λ r. ⌜ r ≡ pairAnswerOf answer .place ⌝ }
+{
+    match answer {
+        PairAnswer::Passes(passes) => { if passes { 1 } else { 0 } }
+        PairAnswer::Refused(cause) => causes::cause_place(cause),
+    }
+}
+
+// An answer of the pair check.
+fn pack_pair_answer(answer: PairAnswer) -> u64
+    ensures { λ r. ⌜ r ≡ packedOf (pairAnswerOf answer) ⌝ }
+{
+    pack(pair_answer_number(answer), pair_answer_place(answer))
+}
+
+#[no_mangle]
+pub extern "C" fn bpe_from_dictionary(
+    file: &[u8],
+    factor: u64,
+    places: &mut [u32],
+    lefts: &mut [u32],
+    rights: &mut [u32],
+    prefixes: &mut [u32],
+    area: &mut [u32],
+) -> u64
+    ensures { λ r. ⌜ Packs buildAnswerOf (λ (a : BuildAnswer). BuildIs (now (file .entry)) factor (lent (now (places .entry)) (now (lefts .entry)) (now (rights .entry)) (now (prefixes .entry)) (now (area .entry))) (lent (now (places .exit)) (now (lefts .exit)) (now (rights .exit)) (now (prefixes .exit)) (now (area .exit))) a) r ⌝ }
+{
+    let answer = dictionary::from_dictionary(file, factor, places, lefts, rights, prefixes, area);
+    pack_build_answer(answer)
+}
+
+#[no_mangle]
+pub extern "C" fn bpe_is_valid_token_pair(
+    file: &[u8],
+    places: &[u32],
+    lefts: &[u32],
+    rights: &[u32],
+    prefixes: &[u32],
+    area: &[u32],
+    token1: u32,
+    token2: u32,
+) -> u64
+    ensures { λ r. ⌜ Packs pairAnswerOf (PairChecked (now (file .entry)) (now (places .entry)) (now (lefts .entry)) (now (rights .entry)) (now (prefixes .entry)) (now (area .entry)) token1 token2) r ⌝ }
+{
+    let answer = pair_check::is_valid_token_pair(
+        file,
+        places,
+        lefts,
+        rights,
+        prefixes,
+        area,
+        token1,
+        token2,
+    );
+    pack_pair_answer(answer)
+}
+
+#[no_mangle]
+pub extern "C" fn bpe_num_tokens(
+    file: &[u8],
+    places: &[u32],
+    lefts: &[u32],
+    rights: &[u32],
+    prefixes: &[u32],
+    area: &[u32],
+) -> u64
+    ensures { λ r. ⌜ Packs answerOf (λ (a : Answer). a ≡ numTokensOf (now (file .entry)) (now (places .entry)) (now (lefts .entry)) (now (rights .entry)) (now (prefixes .entry)) (now (area .entry))) r ⌝ }
+{
+    pack_answer(tables::num_tokens(file, places, lefts, rights, prefixes, area))
+}
+
+#[no_mangle]
+pub extern "C" fn bpe_token_len(
+    file: &[u8],
+    places: &[u32],
+    lefts: &[u32],
+    rights: &[u32],
+    prefixes: &[u32],
+    area: &[u32],
+    token: u32,
+) -> u64
+    ensures { λ r. ⌜ Packs answerOf (λ (a : Answer). a ≡ tokenLenOf (now (file .entry)) (now (places .entry)) (now (lefts .entry)) (now (rights .entry)) (now (prefixes .entry)) (now (area .entry)) token) r ⌝ }
+{
+    pack_answer(tables::token_len(file, places, lefts, rights, prefixes, area, token))
+}

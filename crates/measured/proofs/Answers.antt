@@ -1,0 +1,19 @@
+-- What a lookup answers, in the words of the loop over it. Assumes nothing.
+use mathlib.Core.Path.{_≡_, refl}
+use mathlib.Core.List.{List}
+use mathlib.Core.Bool.{Bool, cond}
+use Prim.Native.Nat.{ℕ}
+use Rattle.placed_rows.specs.Rows.{row}
+use Rattle.search_area.specs.Answers.{Found}
+use Rattle.token_pair.specs.Pair.{PairIs}
+use Rattle.measured.specs.Measured.{PairNumber}
+
+-- the bytes looked up are those of row x
+pub found-row : {file places area t : List ℕ} {n r x y : ℕ} → t ≡ row file places n y → y ≡ x → Found file places n area t r
+    → Found file places n area (row file places n x) r
+found-row e f F = rw (e, f) at F
+
+-- the answer as a number
+pub numbered : {file places lefts rights area : List ℕ} {n u v : ℕ} (check b : Bool) → check ≡ b → PairIs file places lefts rights area n n u v check
+    → PairNumber file places lefts rights area n u v (cond b 1 0)
+numbered check b e P = record { check = b; checked = rw e at P; is = refl }

@@ -1,0 +1,104 @@
+// Core lookups in a loop, exported for the benchmark alone: a public call checks the tables, which takes far longer than one lookup.
+ghost use mathlib.Core.Path.{_≡_};
+ghost use Prim.Native.Nat.{_≤_, _<_};
+ghost use lib.ListN.{length};
+ghost use Rattle.placed_rows.specs.Rows.{row, Placed};
+ghost use Rattle.search_area.specs.Answers.{Found};
+ghost use Rattle.token_pair.specs.Pair.{PairReady};
+ghost use Rattle.measured.specs.Measured.{LookupReady, JoinReady, PairsReady, PairNumber, Finds, Joins, Pairs};
+use placed_rows::wide;
+
+// The row with the bytes of row x.
+fn find_row(file: &[u8], places: &[u32], n: usize, area: &[u32], x: u32) -> u32
+    requires { ⌜ Placed (now file) (now places) n ⌝ }
+    requires { ⌜ (16384 ≤ length (now area)) × (x < n) ⌝ }
+    ensures { λ r. ⌜ Found (now (file .entry)) (now (places .entry)) n (now (area .entry)) (row (now (file .entry)) (now (places .entry)) n x) r ⌝ }
+{
+    let bytes = placed_rows::bytes_of(file, places, n, wide(x));
+    search_area::find(file, places, n, area, bytes)
+}
+
+// Whether x and y pass, as a number.
+fn pair_number(
+    file: &[u8],
+    places: &[u32],
+    lefts: &[u32],
+    rights: &[u32],
+    area: &[u32],
+    n: usize,
+    x: u32,
+    y: u32,
+) -> u32
+    requires { ⌜ PairReady (now file) (now places) (now lefts) (now rights) (now area) n n x y ⌝ }
+    requires { ⌜ n ≤ 4096 ⌝ }
+    ensures { λ r. ⌜ PairNumber (now (file .entry)) (now (places .entry)) (now (lefts .entry)) (now (rights .entry)) (now (area .entry)) n x y r ⌝ }
+{
+    if token_pair::is_valid_pair_below(file, places, lefts, rights, area, n, n as u32, x, y) {
+        return 1;
+    }
+    0
+}
+
+// Each code is looked up by its bytes.
+#[no_mangle]
+pub extern "C" fn measured_finds(
+    file: &[u8],
+    places: &[u32],
+    n: usize,
+    area: &[u32],
+    codes: &[u32],
+    out: &mut [u32],
+)
+    requires { ⌜ LookupReady (now file) (now places) n (now area) (now codes) (now out) ⌝ }
+    ensures { λ r. ⌜ Finds (now (file .entry)) (now (places .entry)) n (now (area .entry)) (now (codes .entry)) (now (out .entry)) (now (out .exit)) ⌝ }
+{
+    let mut i = 0;
+    while i < codes.len() {
+        out[i] = find_row(file, places, n, area, codes[i]);
+        i += 1;
+    }
+}
+
+// Each code is joined with the code at its place in the other list.
+#[no_mangle]
+pub extern "C" fn measured_joins(
+    file: &[u8],
+    places: &[u32],
+    n: usize,
+    area: &[u32],
+    codes: &[u32],
+    others: &[u32],
+    out: &mut [u32],
+)
+    requires { ⌜ JoinReady (now file) (now places) n (now area) (now codes) (now others) (now out) ⌝ }
+    ensures { λ r. ⌜ Joins (now (file .entry)) (now (places .entry)) n (now (area .entry)) (now (codes .entry)) (now (others .entry)) (now (out .entry)) (now (out .exit)) ⌝ }
+{
+    let mut i = 0;
+    while i < codes.len() {
+        out[i] = search_area::join(file, places, n, area, codes[i], others[i]);
+        i += 1;
+    }
+}
+
+// Each code is checked with the code at its place in the other list.
+#[no_mangle]
+pub extern "C" fn measured_pairs(
+    file: &[u8],
+    places: &[u32],
+    lefts: &[u32],
+    rights: &[u32],
+    n: usize,
+    area: &[u32],
+    codes: &[u32],
+    others: &[u32],
+    out: &mut [u32],
+)
+    requires { ⌜ PairsReady (now file) (now places) (now lefts) (now rights) (now area) n (now codes) (now others) (now out) ⌝ }
+    ensures { λ r. ⌜ Pairs (now (file .entry)) (now (places .entry)) n (now (area .entry)) (now (codes .entry)) (now (lefts .entry)) (now (rights .entry)) (now (others .entry)) (now (out .entry)) (now (out .exit)) ⌝ }
+{
+    let mut i = 0;
+    while i < codes.len() {
+        out[i] = pair_number(file, places, lefts, rights, area, n, codes[i], others[i]);
+        i += 1;
+    }
+}

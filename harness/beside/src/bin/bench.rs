@@ -1,0 +1,369 @@
+//! Prints one table: each call, ours and the Rust's, in nanoseconds, on three files and three sizes of text. Both run in
+//! turns, and the best of several rounds counts. `bench [ROUNDS [WORD]]`: only the calls whose name has the word.
+use aneubeck_daachorse::{DoubleArrayAhoCorasick, DoubleArrayAhoCorasickBuilder, MatchKind};
+use beside::files;
+use beside::random::Random;
+use beside::text::{digits, Language};
+use original::byte_pair_encoding::BytePairEncoding;
+use ours::measured::Checked;
+use ours::{Buffers, Tables, AREA, NONE};
+use std::hint::black_box;
+use std::time::Instant;
+
+const SIZES: [usize; 3] = [1024, 2048, 4096];
+/// Lookups in one loop.
+const LOOKUPS: usize = 4096;
+/// A round of a call takes about so long.
+const ROUND: f64 = 2_000_000.0;
+
+/// A call in its two forms; the time is divided by `per`.
+struct Call<'a> {
+    name: String,
+    text: Option<usize>,
+    per: usize,
+    /// Whether our side checks the tables first.
+    checks: bool,
+    ours: Option<Box<dyn FnMut() -> u64 + 'a>>,
+    rust: Option<Box<dyn FnMut() -> u64 + 'a>>,
+}
+
+impl<'a> Call<'a> {
+    fn new(name: impl Into<String>) -> Self {
+        Call { name: name.into(), text: None, per: 1, checks: true, ours: None, rust: None }
+    }
+
+    fn ours(mut self, call: impl FnMut() -> u64 + 'a) -> Self {
+        self.ours = Some(Box::new(call));
+        self
+    }
+
+    fn rust(mut self, call: impl FnMut() -> u64 + 'a) -> Self {
+        self.rust = Some(Box::new(call));
+        self
+    }
+
+    /// On a text of so many bytes.
+    fn text(mut self, size: usize) -> Self {
+        self.text = Some(size);
+        self
+    }
+
+    /// A loop over core lookups, which check nothing.
+    fn lookups(mut self) -> Self {
+        self.per = LOOKUPS;
+        self.checks = false;
+        self
+    }
+}
+
+/// How often a call fits into a round.
+fn times(call: &mut (dyn FnMut() -> u64 + '_)) -> usize {
+    black_box(call());
+    let start = Instant::now();
+    black_box(call());
+    (ROUND / (start.elapsed().as_nanos() as f64 + 1.0)).clamp(1.0, 1e6) as usize
+}
+
+fn round(call: &mut (dyn FnMut() -> u64 + '_), times: usize) -> f64 {
+    let start = Instant::now();
+    for _ in 0..times {
+        black_box(call());
+    }
+    start.elapsed().as_nanos() as f64 / times as f64
+}
+
+/// Times of a call: ours, the Rust's, and the check of the tables.
+struct Times {
+    ours: Option<f64>,
+    rust: Option<f64>,
+    check: f64,
+}
+
+impl Times {
+    /// Ours without the check; nothing where that drowns in the check's own noise.
+    fn core(&self) -> Option<f64> {
+        let core = self.ours? - self.check;
+        (core > self.check / 50.0).then_some(core)
+    }
+}
+
+/// The best of the rounds, ours, the Rust's and the check in turns.
+fn measure(call: &mut Call, tables: Tables, rounds: usize) -> Times {
+    let mut check = || u64::from(tables.num_tokens().unwrap());
+    let mut forms: [Option<&mut (dyn FnMut() -> u64 + '_)>; 3] =
+        [call.ours.as_mut().map(|f| f.as_mut() as _), call.rust.as_mut().map(|f| f.as_mut() as _), Some(&mut check)];
+    let counts: Vec<usize> = forms.iter_mut().map(|f| f.as_mut().map_or(0, |f| times(*f))).collect();
+    let mut best = [f64::INFINITY; 3];
+    for _ in 0..rounds {
+        for (i, form) in forms.iter_mut().enumerate() {
+            if let Some(form) = form {
+                best[i] = best[i].min(round(*form, counts[i]));
+            }
+        }
+    }
+    let figure = |time: f64| time.is_finite().then_some(time / call.per as f64);
+    Times { ours: figure(best[0]), rust: figure(best[1]), check: best[2] }
+}
+
+fn shown(time: Option<f64>) -> String {
+    match time {
+        None => String::new(),
+        Some(t) if t < 100.0 => format!("{t:.1}"),
+        Some(t) => {
+            let digits = format!("{t:.0}");
+            let mut text = String::new();
+            for (i, c) in digits.chars().enumerate() {
+                if i > 0 && (digits.len() - i) % 3 == 0 {
+                    text.push(',');
+                }
+                text.push(c);
+            }
+            text
+        }
+    }
+}
+
+/// A file with our tables and the original's.
+struct Sheet {
+    name: &'static str,
+    rows: Vec<Vec<u8>>,
+    file: Vec<u8>,
+    factor: u64,
+    tables: [Vec<u32>; 4],
+    area: Vec<u32>,
+    rust: BytePairEncoding,
+    text: Vec<u8>,
+}
+
+impl Sheet {
+    fn new(name: &'static str, rows: Vec<Vec<u8>>, text: Vec<u8>) -> Self {
+        let file = files::file_of(&rows);
+        let factor = files::factor_for(&rows, 1);
+        let mut tables = [(); 4].map(|_| vec![0; rows.len()]);
+        let mut area = vec![0; AREA];
+        let answer = ours::from_dictionary(&file, factor, lend(&mut tables, &mut area));
+        assert_eq!(answer, Ok(rows.len() as u32), "{name}");
+        let rust = original::build(rows.clone(), factor).expect(name);
+        for (i, parts) in rust.probe_parts().iter().enumerate() {
+            assert_eq!((tables[1][i], tables[2][i]), *parts, "{name}, row {i}");
+        }
+        assert_eq!(tables[3], rust.probe_prefixes(), "{name}");
+        Sheet { name, rows, file, factor, tables, area, rust, text }
+    }
+
+    fn tables(&self) -> Tables<'_> {
+        Tables {
+            file: &self.file,
+            places: &self.tables[0],
+            lefts: &self.tables[1],
+            rights: &self.tables[2],
+            prefixes: &self.tables[3],
+            area: &self.area,
+        }
+    }
+}
+
+fn lend<'a>(tables: &'a mut [Vec<u32>; 4], area: &'a mut [u32]) -> Buffers<'a> {
+    let [places, lefts, rights, prefixes] = tables;
+    Buffers { places, lefts, rights, prefixes, area }
+}
+
+/// The build. What the original's searchers cost depends on the stand-in, so they are shown apart.
+fn builds(sheet: &Sheet, rounds: usize) {
+    let mut tables = sheet.tables.clone();
+    let mut area = sheet.area.clone();
+    let mut ours = f64::INFINITY;
+    let mut rust = f64::INFINITY;
+    let mut searchers = f64::INFINITY;
+    for _ in 0..rounds {
+        for _ in 0..4 {
+            let start = Instant::now();
+            let answer = ours::from_dictionary(&sheet.file, sheet.factor, lend(&mut tables, &mut area));
+            ours = ours.min(start.elapsed().as_nanos() as f64);
+            assert!(answer.is_ok());
+        }
+        let rows = sheet.rows.clone();
+        let start = Instant::now();
+        let built = BytePairEncoding::from_dictionary(rows, Some(sheet.factor));
+        rust = rust.min(start.elapsed().as_nanos() as f64);
+        drop(built);
+        let reversed: Vec<Vec<u8>> = sheet.rows.iter().map(|row| row.iter().rev().copied().collect()).collect();
+        let start = Instant::now();
+        let longest: DoubleArrayAhoCorasick<u32> =
+            DoubleArrayAhoCorasickBuilder::new().match_kind(MatchKind::LeftmostLongest).build(&sheet.rows).unwrap();
+        let all = DoubleArrayAhoCorasick::<u32>::new(&sheet.rows).unwrap();
+        let all_reversed = DoubleArrayAhoCorasick::<u32>::new(&reversed).unwrap();
+        searchers = searchers.min(start.elapsed().as_nanos() as f64);
+        drop((longest, all, all_reversed));
+    }
+    line("from_dictionary", sheet, None, Some(ours), None, Some(ours), Some(rust));
+    let without = Some(rust - searchers);
+    line("the same, without the Rust's searchers", sheet, None, Some(ours), None, Some(ours), without);
+}
+
+fn line(
+    name: &str,
+    sheet: &Sheet,
+    text: Option<usize>,
+    public: Option<f64>,
+    check: Option<f64>,
+    core: Option<f64>,
+    rust: Option<f64>,
+) {
+    let ratio = match (core, rust) {
+        (Some(core), Some(rust)) => format!("{:.2}", core / rust),
+        _ => String::new(),
+    };
+    let text = text.map(|size| shown(Some(size as f64))).unwrap_or_default();
+    println!(
+        "| {name} | {} | {text} | {} | {} | {} | {} | {ratio} |",
+        sheet.name,
+        shown(public),
+        shown(check),
+        shown(core),
+        shown(rust)
+    );
+}
+
+fn total(list: &[u32]) -> u64 {
+    list.iter().map(|&x| u64::from(x)).sum()
+}
+
+/// The lookups, on rows and pairs of rows.
+fn lookups(sheet: &Sheet) -> Vec<Call<'_>> {
+    let rust = &sheet.rust;
+    let n = sheet.rows.len();
+    let mut random = Random::new(7);
+    let mut any = || (0..LOOKUPS).map(|_| random.below(n) as u32).collect::<Vec<u32>>();
+    let codes = rust.encode_via_backtracking(&sheet.text);
+    let code = |i: usize| codes[i % codes.len()];
+    let mut random = Random::new(8);
+    let joined: Vec<usize> = (0..LOOKUPS).map(|_| random.within(256, n - 1)).collect();
+    let part = |side: usize| joined.iter().map(|&i| sheet.tables[side][i]).collect();
+    let bytes = |c: u32| &sheet.rows[c as usize][..];
+    let found = |b: &Vec<u8>| u64::from(rust.probe_find(b).unwrap_or(NONE));
+    let pairs: [(&str, Vec<u32>, Vec<u32>); 3] = [
+        ("random rows", any(), any()),
+        ("codes of the text", (0..LOOKUPS).map(code).collect(), (1..=LOOKUPS).map(code).collect()),
+        ("parts of a row", part(1), part(2)),
+    ];
+    let rows = any();
+    let texts: Vec<Vec<u8>> = rows.iter().map(|&c| bytes(c).to_vec()).collect();
+    let checked = Checked::new(sheet.tables()).unwrap();
+    let rows = checked.codes(rows);
+    let mut out = vec![0; LOOKUPS];
+    let mut calls = vec![Call::new("row by its bytes, random row")
+        .lookups()
+        .ours(move || {
+            checked.finds(&rows, &mut out);
+            total(&out)
+        })
+        .rust(move || texts.iter().map(found).sum())];
+    for (what, lefts, rights) in pairs {
+        let texts: Vec<Vec<u8>> = lefts.iter().zip(&rights).map(|(&l, &r)| [bytes(l), bytes(r)].concat()).collect();
+        let checked = Checked::new(sheet.tables()).unwrap();
+        let (x, y) = (checked.codes(lefts.clone()), checked.codes(rights.clone()));
+        let mut out = vec![0; LOOKUPS];
+        let join = Call::new(format!("join, {what}")).lookups();
+        calls.push(
+            join.ours(move || {
+                checked.joins(&x, &y, &mut out);
+                total(&out)
+            })
+            .rust(move || texts.iter().map(found).sum()),
+        );
+        let checked = Checked::new(sheet.tables()).unwrap();
+        let (x, y) = (checked.codes(lefts.clone()), checked.codes(rights.clone()));
+        let mut out = vec![0; LOOKUPS];
+        let pair = Call::new(format!("pair check, {what}")).lookups();
+        calls.push(
+            pair.ours(move || {
+                checked.pairs(&x, &y, &mut out);
+                total(&out)
+            })
+            .rust(move || lefts.iter().zip(&rights).map(|(&l, &r)| rust.probe_pair(l, r) as u64).sum()),
+        );
+    }
+    calls
+}
+
+/// The calls that need the tables alone.
+fn table_calls(sheet: &Sheet) -> Vec<Call<'_>> {
+    let tables = sheet.tables();
+    let rust = &sheet.rust;
+    let n = sheet.rows.len();
+    let mut random = Random::new(9);
+    let (x, y) = (random.below(n) as u32, random.below(n) as u32);
+    vec![
+        Call::new("token_len")
+            .ours(move || u64::from(tables.token_len(black_box(x)).unwrap()))
+            .rust(move || rust.token_len(black_box(x)) as u64),
+        Call::new("is_valid_token_pair")
+            .ours(move || u64::from(tables.is_valid_token_pair(black_box(x), black_box(y)).unwrap()))
+            .rust(move || rust.probe_pair(black_box(x), black_box(y)) as u64),
+    ]
+}
+
+/// The calls on a text.
+fn text_calls<'a>(sheet: &'a Sheet, text: &'a [u8]) -> Vec<Call<'a>> {
+    let rust = &sheet.rust;
+    let codes = rust.encode_via_backtracking(text);
+    let on = |name: &str| Call::new(name).text(text.len());
+    vec![
+        on("encode_via_bitfield").rust(move || rust.encode_via_bitfield(text).len() as u64),
+        on("encode_via_backtracking").rust(move || rust.encode_via_backtracking(text).len() as u64),
+        on("encode_via_table").rust(move || rust.encode_via_table(text).len() as u64),
+        on("encode_minimal").rust(move || rust.encode_minimal(text).len() as u64),
+        on("encode_greedy").rust(move || rust.encode_greedy(text).len() as u64),
+        on("count").rust(move || rust.count(text) as u64),
+        on("count_till_limit, no limit").rust(move || rust.count_till_limit(text, usize::MAX).unwrap() as u64),
+        on("decode_tokens").rust(move || rust.decode_tokens(&codes).len() as u64),
+    ]
+}
+
+fn main() {
+    let mut words = std::env::args().skip(1);
+    let rounds = words.next().map(|w| w.parse().expect("a number of rounds")).unwrap_or(8);
+    let only = words.next().unwrap_or_default();
+    let language = Language::new(1, 6000);
+    let english = language.text(2, SIZES[2]);
+    let sheets = [
+        Sheet::new("512 rows", files::trained(&language, 512), english.clone()),
+        Sheet::new("1,356 rows, grid", files::grid(), digits(2, SIZES[2])),
+        Sheet::new("4,096 rows", files::trained(&language, 4096), english),
+    ];
+    println!("ns, best of {rounds} rounds; core is public minus check; the ratio is core to Rust\n");
+    println!("| call | file | text | ours, public | check | ours, core | Rust | ratio |");
+    println!("|---|---|---|---|---|---|---|---|");
+    for sheet in &sheets {
+        let n = sheet.rows.len() as f64;
+        let tables = sheet.tables();
+        let name = "check of the tables (num_tokens)";
+        if name.contains(&only) {
+            let check = Some(measure(&mut Call::new(name), tables, rounds).check);
+            line(name, sheet, None, check, check, None, None);
+            let row = check.map(|t| t / n);
+            line("the same, a row", sheet, None, row, row, None, None);
+        }
+        if "from_dictionary".contains(&only) {
+            builds(sheet, rounds);
+        }
+        let mut calls = table_calls(sheet);
+        calls.extend(lookups(sheet));
+        for size in SIZES {
+            calls.extend(text_calls(sheet, &sheet.text[..size]));
+        }
+        for mut call in calls {
+            if !call.name.contains(&only) {
+                continue;
+            }
+            let times = measure(&mut call, tables, rounds);
+            if call.checks {
+                let check = times.ours.map(|_| times.check);
+                line(&call.name, sheet, call.text, times.ours, check, times.core(), times.rust);
+            } else {
+                line(&call.name, sheet, call.text, None, None, times.ours, times.rust);
+            }
+        }
+    }
+}

@@ -1,0 +1,47 @@
+//! Phrase files.
+use crate::random::Random;
+use crate::text::Language;
+use crate::train;
+
+/// The file form of document 01: per row a mark, a length byte and the bytes.
+pub fn file_of(rows: &[Vec<u8>]) -> Vec<u8> {
+    let mut file = vec![];
+    for row in rows {
+        file.extend([0xc7, 0x51, row.len() as u8]);
+        file.extend(row);
+    }
+    file
+}
+
+/// B of document 01: the 256 bytes in order.
+pub fn bytes() -> Vec<Vec<u8>> {
+    (0..=255).map(|c| vec![c]).collect()
+}
+
+/// The grid file: B, "00" to "99", "000" to "999".
+pub fn grid() -> Vec<Vec<u8>> {
+    let mut rows = bytes();
+    rows.extend((0..100).map(|k| format!("{k:02}").into_bytes()));
+    rows.extend((0..1000).map(|k| format!("{k:03}").into_bytes()));
+    rows
+}
+
+/// A file of so many rows, trained on a text that looks like English.
+pub fn trained(language: &Language, size: usize) -> Vec<Vec<u8>> {
+    let rows = train::rows(&language.text(1, 600_000), size, 64);
+    assert_eq!(rows.len(), size, "the training text is too short");
+    rows
+}
+
+/// A factor with which no two rows have one hash.
+pub fn factor_for(rows: &[Vec<u8>], seed: u64) -> u64 {
+    let mut random = Random::new(seed);
+    loop {
+        let factor = random.word() | 1;
+        let mut hashes: Vec<u32> = rows.iter().map(|row| crate::model::hash(row, factor)).collect();
+        hashes.sort();
+        if hashes.windows(2).all(|h| h[0] != h[1]) {
+            return factor;
+        }
+    }
+}

@@ -1,0 +1,214 @@
+//! A model of document 01, plain and slow, that knows neither the original nor our code. Parts and pairs are told by
+//! the merge procedure: the parts of a row are the two rows that merging its bytes over the rows before it leaves, and
+//! two rows pass if merging their bytes leaves these two.
+use ours::{Refusal, AREA, NONE};
+use std::collections::HashMap;
+
+pub fn hash(bytes: &[u8], factor: u64) -> u32 {
+    let mut hash: u64 = 0xcbf29ce484222325;
+    for octet in (bytes.len() as u64).to_le_bytes().iter().chain(bytes) {
+        hash = (hash ^ u64::from(*octet)).wrapping_mul(0x100000001b3);
+    }
+    (hash.wrapping_mul(factor) >> 32) as u32
+}
+
+fn refused<T>(cause: u32, place: usize) -> Result<T, Refusal> {
+    Err(Refusal { cause, place: place as u32 })
+}
+
+/// The rows of a file, or refusal 2.
+pub fn parse(file: &[u8]) -> Result<Vec<Vec<u8>>, Refusal> {
+    if file.len() > 65536 {
+        return refused(2, 65536);
+    }
+    let mut rows = vec![];
+    let mut at = 0;
+    while at < file.len() {
+        let rest = &file[at..];
+        let good = rest.len() >= 3
+            && rest[..2] == [0xc7, 0x51]
+            && (1..=64).contains(&rest[2])
+            && rest.len() >= 3 + rest[2] as usize;
+        if !good {
+            return refused(2, at);
+        }
+        let size = rest[2] as usize;
+        rows.push(rest[3..3 + size].to_vec());
+        at += 3 + size;
+    }
+    Ok(rows)
+}
+
+/// The rows of a file that passes 2 to 4.
+pub fn check(file: &[u8]) -> Result<Vec<Vec<u8>>, Refusal> {
+    let rows = parse(file)?;
+    if rows.len() < 256 || rows.len() > 4096 {
+        return refused(3, rows.len());
+    }
+    if let Some(byte) = (0..=255).find(|&b| !rows.iter().any(|row| row[..] == [b])) {
+        return refused(4, byte as usize);
+    }
+    Ok(rows)
+}
+
+/// Merging: the neighbours whose joined bytes are the lowest row below the limit, the leftmost first, until there are none.
+pub fn merge(numbers: &HashMap<Vec<u8>, u32>, limit: u32, text: &[u8]) -> Vec<Vec<u8>> {
+    let mut pieces: Vec<Vec<u8>> = text.iter().map(|&c| vec![c]).collect();
+    loop {
+        let best = (1..pieces.len())
+            .filter_map(|i| {
+                let row = numbers.get(&[&pieces[i - 1][..], &pieces[i][..]].concat())?;
+                (*row < limit).then_some((*row, i))
+            })
+            .min();
+        let Some((_, i)) = best else { return pieces };
+        let right = pieces.remove(i);
+        pieces[i - 1].extend(right);
+    }
+}
+
+/// The row of each bytes; the first where there are several.
+pub fn numbers(rows: &[Vec<u8>]) -> HashMap<Vec<u8>, u32> {
+    let mut numbers = HashMap::new();
+    for (i, row) in rows.iter().enumerate() {
+        numbers.entry(row.clone()).or_insert(i as u32);
+    }
+    numbers
+}
+
+/// What an accepting build leaves in the tables.
+#[derive(Clone, PartialEq, Eq, Debug)]
+pub struct Tables {
+    pub places: Vec<u32>,
+    pub lefts: Vec<u32>,
+    pub rights: Vec<u32>,
+    pub prefixes: Vec<u32>,
+}
+
+/// The sizes of the lent buffers: the four tables, then the area.
+pub type Sizes = [usize; 5];
+
+/// The answer of build, with the tables if it accepts.
+pub fn build(file: &[u8], factor: u64, sizes: Sizes) -> Result<Tables, Refusal> {
+    if factor == 0 {
+        return refused(1, 0);
+    }
+    let rows = check(file)?;
+    if sizes[..4].iter().any(|&size| size < rows.len()) || sizes[4] < AREA {
+        return refused(7, 0);
+    }
+    let hashes: Vec<u32> = rows.iter().map(|row| hash(row, factor)).collect();
+    if let Some(row) = (0..rows.len()).find(|&i| hashes[..i].contains(&hashes[i])) {
+        return refused(5, row);
+    }
+    let numbers = numbers(&rows);
+    let mut tables = Tables { places: vec![], lefts: vec![], rights: vec![], prefixes: vec![] };
+    let mut place = 0;
+    for (i, row) in rows.iter().enumerate() {
+        tables.places.push(place);
+        place += 3 + row.len() as u32;
+        let prefix = (1..row.len()).rev().find_map(|size| numbers.get(&row[..size]));
+        tables.prefixes.push(prefix.copied().unwrap_or(NONE));
+        if row.len() == 1 {
+            tables.lefts.push(i as u32);
+            tables.rights.push(i as u32);
+            continue;
+        }
+        let pieces = merge(&numbers, i as u32, row);
+        let below: Vec<u32> = pieces.iter().filter_map(|p| numbers.get(p).copied()).filter(|&p| p < i as u32).collect();
+        if pieces.len() != 2 || below.len() != 2 {
+            return refused(6, i);
+        }
+        tables.lefts.push(below[0]);
+        tables.rights.push(below[1]);
+    }
+    Ok(tables)
+}
+
+/// Whether two rows pass the pair check.
+pub fn passes(numbers: &HashMap<Vec<u8>, u32>, left: &[u8], right: &[u8]) -> bool {
+    merge(numbers, NONE, &[left, right].concat()) == [left, right]
+}
+
+/// Whether tables are in form.
+pub fn in_form(t: &ours::Tables) -> bool {
+    let Ok(rows) = check(t.file) else { return false };
+    let n = rows.len();
+    let large = [t.places, t.lefts, t.rights, t.prefixes].iter().all(|table| table.len() >= n);
+    if !large || t.area.len() < AREA {
+        return false;
+    }
+    let mut place = 0;
+    for (i, row) in rows.iter().enumerate() {
+        let (left, right, prefix) = (t.lefts[i] as usize, t.rights[i] as usize, t.prefixes[i]);
+        let shorter = prefix == NONE || ((prefix as usize) < n && rows[prefix as usize].len() < row.len());
+        let alone = left == i && right == i && row.len() == 1;
+        let lower = left < i && right < i && rows[left].len() + rows[right].len() == row.len();
+        if t.places[i] != place || !shorter || !(alone || lower) {
+            return false;
+        }
+        place += 3 + row.len() as u32;
+    }
+    true
+}
+
+#[cfg(test)]
+mod tests {
+    use super::*;
+    use crate::files;
+
+    fn with(longer: &[&str]) -> Vec<Vec<u8>> {
+        let mut rows = files::bytes();
+        rows.extend(longer.iter().map(|row| row.as_bytes().to_vec()));
+        rows
+    }
+
+    fn g() -> Vec<Vec<u8>> {
+        let mut rows = with(&["bc", "bcd"]);
+        rows.insert(0, b"ab".to_vec());
+        rows
+    }
+
+    fn built(rows: &[Vec<u8>]) -> Result<Tables, Refusal> {
+        build(&files::file_of(rows), 1, [4096, 4096, 4096, 4096, AREA])
+    }
+
+    /// The samples of document 01, on the model.
+    #[test]
+    fn samples() {
+        let e = with(&["bc", "ab", "cd"]);
+        assert!(built(&e).is_ok());
+        assert_eq!(merge(&numbers(&e), NONE, b"abcd"), [&b"a"[..], b"bc", b"d"]);
+        let f = with(&["aa"]);
+        assert!(built(&f).is_ok());
+        assert_eq!(merge(&numbers(&f), NONE, b"aaa"), [&b"aa"[..], b"a"]);
+        assert!(!passes(&numbers(&f), b"a", b"aa"));
+        assert!(passes(&numbers(&f), b"aa", b"a"));
+        assert_eq!(built(&g()), refused(6, 0));
+    }
+
+    /// What document 01 says of the original on G.
+    #[test]
+    fn original_on_g() {
+        let rust = original::build(g(), 1).unwrap();
+        assert_eq!(rust.encode_via_table(b"abcd"), [98, 258]);
+        assert_eq!(rust.encode_via_backtracking(b"abcd"), [0, 100, 101]);
+    }
+
+    /// Published vectors of FNV-1a with 64 bits: of nothing, "a" and "foobar". The row's hash puts the length in front.
+    #[test]
+    fn row_hash() {
+        use std::hash::Hasher;
+        let fnv = |bytes: &[u8]| {
+            let mut hasher = fnv::FnvHasher::default();
+            hasher.write(bytes);
+            hasher.finish()
+        };
+        assert_eq!(fnv(b""), 0xcbf29ce484222325);
+        assert_eq!(fnv(b"a"), 0xaf63dc4c8601ec8c);
+        assert_eq!(fnv(b"foobar"), 0x85944171f73967e8);
+        let row = b"\x06\0\0\0\0\0\0\0foobar";
+        assert_eq!(hash(b"foobar", 1), (fnv(row) >> 32) as u32);
+        assert_eq!(hash(b"foobar", 1), original::byte_pair_encoding::probe_hash(b"foobar", 1));
+    }
+}

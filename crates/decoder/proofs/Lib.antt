@@ -1,0 +1,4 @@
+pub mod Codes
+pub mod Copying
+pub mod Spelling
+pub mod Decoding

@@ -1,4 +1,11 @@
 pub mod Lookup
-pub mod Scan
-pub mod Shift
+pub mod Joins
+pub mod Nodes
+pub mod Living
+pub mod Places
+pub mod Starting
+pub mod Turning
+pub mod Least
+pub mod Gathering
+pub mod Renewing
 pub mod Turns

@@ -1,1 +1,9 @@
-
+pub mod StateKit
+pub mod HeadKit
+pub mod Carried
+pub mod Moving
+pub mod Ending
+pub mod Refusals
+pub mod Agreeing
+pub mod Calling
+pub mod Texting

@@ -1,2 +1,4 @@
 pub mod Records
+pub mod Steps
 pub mod Calls
+pub mod Text

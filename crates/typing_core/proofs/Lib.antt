@@ -1,0 +1,9 @@
+pub mod Mirror
+pub mod Rows
+pub mod Ending
+pub mod Following
+pub mod Recording
+pub mod Chaining
+pub mod Coding
+pub mod Pushing
+pub mod Answers

@@ -1,3 +1,4 @@
 pub mod Sides
 pub mod Refusals
 pub mod Columns
+pub mod Steps

@@ -1,8 +1,530 @@
-// Typing over columns, in both directions.
+// Typing over columns, in both directions. Byte, code and count of each record stand in three buffers. Bytes stand in the order in which
+// they were typed; in prepending the text is read from a fourth buffer, `reading`, in which they stand from the end back.
+ghost use mathlib.Core.Path.{_≡_};
+ghost use lib.ListN.{length};
+ghost use Rattle.built.specs.Built.{dictionaryOf};
+ghost use Rattle.prefix_table.specs.Tables.{RowReady};
 ghost use Rattle.typing_core.specs.Sides.{sideOf};
+ghost use Rattle.typing_core.specs.Columns.{ExtendedColumns, CountedColumns};
+ghost use Rattle.typing_core.specs.Steps.{FillReady, Mirrored, Sizes, endsBytes, EndsReady, PairOf, BesideIs, FollowsReady, FollowsIs, CountReady, CountIs, RecordsReady, RecordReady, RecordIs, RecordsAre, FirstReady, FirstIs, CodeReady, CodeIs, PushReady, Pushed, ExtendReady, ExtendedBy, Checked};
+use causes::Cause;
+use placed_rows::NONE;
+use placed_rows::wide;
+use tables::Answer;
+use tables::Form;
+use token_pair::is_valid_pair_below;
 
 // The direction of typing.
 pub enum Side {
     Append,
     Prepend,
+}
+
+// The number of bytes of a row.
+fn row_len(file: &[u8], places: &[u32], n: usize, code: u32) -> usize
+    requires { ⌜ RowReady (now file) (now places) n code ⌝ }
+    ensures { λ r. ⌜ r ≡ length (dictionaryOf (now (file .entry)) .bytes code) ⌝ }
+{
+    placed_rows::length_of(file, places, n, wide(code))
+}
+
+// Puts the first `len` typed bytes into `reading`, from its end back.
+pub fn fill_reading(bytes: &[u8], len: usize, reading: &mut [u8])
+    requires { ⌜ FillReady (now bytes) (now reading) len ⌝ }
+    ensures { λ r. ⌜ Mirrored (now (bytes .entry)) (now (reading .exit)) len ⌝ }
+{
+    let mut i = 0;
+    while i < len {
+        let at = 4095 - i;
+        reading[at] = bytes[i];
+        i += 1;
+    }
+}
+
+// Whether a row ends the first i + 1 typed bytes.
+fn row_ends(
+    side: Side,
+    file: &[u8],
+    places: &[u32],
+    n: usize,
+    bytes: &[u8],
+    reading: &[u8],
+    i: usize,
+    code: u32,
+) -> bool
+    requires { ⌜ EndsReady (now file) (now places) n (now bytes) (now reading) i code ⌝ }
+    ensures { λ r. ⌜ r ≡ endsBytes (dictionaryOf (now (file .entry))) (sideOf side) (now (bytes .entry)) i code ⌝ }
+{
+    let row = placed_rows::bytes_of(file, places, n, wide(code));
+    match side {
+        Side::Append => {
+            let end = i + 1;
+            placed_rows::begins_facing(row, &bytes[..end], true)
+        }
+        Side::Prepend => {
+            let from = 4095 - i;
+            placed_rows::begins_facing(row, &reading[from..], false)
+        }
+    }
+}
+
+// Whether a row passes with the code typed before it.
+fn passes_beside(
+    side: Side,
+    file: &[u8],
+    places: &[u32],
+    lefts: &[u32],
+    rights: &[u32],
+    area: &[u32],
+    n: usize,
+    before: u32,
+    code: u32,
+) -> bool
+    requires { ⌜ PairOf (now file) (now places) (now lefts) (now rights) (now area) n before code ⌝ }
+    ensures { λ r. ⌜ BesideIs (now (file .entry)) (now (places .entry)) (now (lefts .entry)) (now (rights .entry)) (now (area .entry)) (sideOf side) n before code r ⌝ }
+{
+    let limit = n as u32;
+    match side {
+        Side::Append => {
+            is_valid_pair_below(file, places, lefts, rights, area, n, limit, before, code)
+        }
+        Side::Prepend => {
+            is_valid_pair_below(file, places, lefts, rights, area, n, limit, code, before)
+        }
+    }
+}
+
+// Whether a row reaches the first byte, or passes with the code of the record just before its bytes.
+fn follows(
+    side: Side,
+    file: &[u8],
+    places: &[u32],
+    lefts: &[u32],
+    rights: &[u32],
+    area: &[u32],
+    n: usize,
+    codes: &[u32],
+    i: usize,
+    code: u32,
+) -> bool
+    requires { ⌜ FollowsReady (now file) (now places) (now lefts) (now rights) (now area) n (now codes) i code ⌝ }
+    ensures { λ r. ⌜ FollowsIs (now (file .entry)) (now (places .entry)) (now (lefts .entry)) (now (rights .entry)) (now (area .entry)) (sideOf side) n (now (codes .entry)) i code r ⌝ }
+{
+    let len = row_len(file, places, n, code);
+    if i < len {
+        return len == i + 1;
+    }
+    let before = codes[i - len];
+    passes_beside(side, file, places, lefts, rights, area, n, before, code)
+}
+
+// The count of a record with this row: one more than that of the record just before the row's bytes, or 1.
+fn count_with(file: &[u8], places: &[u32], n: usize, counts: &[u32], i: usize, code: u32) -> u32
+    requires { ⌜ CountReady (now file) (now places) n (now counts) i code ⌝ }
+    ensures { λ r. ⌜ CountIs (now (file .entry)) (now (counts .entry)) i code r ⌝ }
+{
+    let len = row_len(file, places, n, code);
+    if i < len {
+        return 1;
+    }
+    counts[i - len] + 1
+}
+
+// Whether record i is in form, the records before it being so.
+fn record_in_form(
+    side: Side,
+    file: &[u8],
+    places: &[u32],
+    lefts: &[u32],
+    rights: &[u32],
+    area: &[u32],
+    n: usize,
+    bytes: &[u8],
+    reading: &[u8],
+    codes: &[u32],
+    counts: &[u32],
+    i: usize,
+) -> bool
+    requires { ⌜ RecordReady (now file) (now places) (now lefts) (now rights) (now area) n (now bytes) (now reading) (now codes) (now counts) i ⌝ }
+    ensures { λ r. ⌜ RecordIs (now (file .entry)) (now (places .entry)) (now (lefts .entry)) (now (rights .entry)) (now (area .entry)) (sideOf side) n (now (bytes .entry)) (now (codes .entry)) (now (counts .entry)) i r ⌝ }
+{
+    let code = codes[i];
+    if n <= wide(code) {
+        return false;
+    }
+    if !row_ends(side, file, places, n, bytes, reading, i, code) {
+        return false;
+    }
+    if !follows(side, file, places, lefts, rights, area, n, codes, i, code) {
+        return false;
+    }
+    counts[i] == count_with(file, places, n, counts, i, code)
+}
+
+// Whether the records below `len` are in form.
+pub fn records_in_form(
+    side: Side,
+    file: &[u8],
+    places: &[u32],
+    lefts: &[u32],
+    rights: &[u32],
+    area: &[u32],
+    n: usize,
+    bytes: &[u8],
+    reading: &[u8],
+    codes: &[u32],
+    counts: &[u32],
+    len: usize,
+) -> bool
+    requires { ⌜ RecordsReady (now file) (now places) (now lefts) (now rights) (now area) n (now bytes) (now reading) (now codes) (now counts) len ⌝ }
+    ensures { λ r. ⌜ RecordsAre (now (file .entry)) (now (places .entry)) (now (lefts .entry)) (now (rights .entry)) (now (area .entry)) (sideOf side) n (now (bytes .entry)) (now (codes .entry)) (now (counts .entry)) len r ⌝ }
+{
+    let mut i = 0;
+    while i < len {
+        if !record_in_form(
+            side,
+            file,
+            places,
+            lefts,
+            rights,
+            area,
+            n,
+            bytes,
+            reading,
+            codes,
+            counts,
+            i,
+        ) {
+            return false;
+        }
+        i += 1;
+    }
+    true
+}
+
+// The first code of the text in `reading` from 4095 - i on, where `codes` has those of all shorter suffixes, or 0. The rows that begin the
+// text are tried longest first.
+fn first_code_at(
+    file: &[u8],
+    places: &[u32],
+    lefts: &[u32],
+    rights: &[u32],
+    prefixes: &[u32],
+    area: &[u32],
+    n: usize,
+    reading: &[u8],
+    i: usize,
+    codes: &[u32],
+) -> u32
+    requires { ⌜ FirstReady (now file) (now places) (now lefts) (now rights) (now prefixes) (now area) n (now reading) i (now codes) ⌝ }
+    ensures { λ r. ⌜ FirstIs (now (file .entry)) (now (places .entry)) (now (lefts .entry)) (now (rights .entry)) (now (prefixes .entry)) (now (area .entry)) n (now (reading .entry)) i (now (codes .entry)) r ⌝ }
+{
+    let found = search_area::next_match(file, places, n, area, reading, 4095 - i);
+    let mut token = found.row;
+    while token != NONE {
+        if follows(
+            Side::Prepend,
+            file,
+            places,
+            lefts,
+            rights,
+            area,
+            n,
+            codes,
+            i,
+            token,
+        ) {
+            return token;
+        }
+        token = prefixes[token as usize];
+    }
+    0
+}
+
+// The code of the first i + 1 typed bytes, where `codes` has those of all shorter ones: the last code in appending, the first in prepending.
+fn code_at(
+    side: Side,
+    file: &[u8],
+    places: &[u32],
+    lefts: &[u32],
+    rights: &[u32],
+    prefixes: &[u32],
+    area: &[u32],
+    n: usize,
+    bytes: &[u8],
+    reading: &[u8],
+    i: usize,
+    codes: &[u32],
+    found: &mut [u32; 64],
+) -> u32
+    requires { ⌜ CodeReady (now file) (now places) (now lefts) (now rights) (now prefixes) (now area) n (now bytes) (now reading) i (now codes) ⌝ }
+    ensures { λ r. ⌜ CodeIs (now (file .entry)) (now (places .entry)) (now (lefts .entry)) (now (rights .entry)) (now (prefixes .entry)) (now (area .entry)) (sideOf side) n (now (bytes .entry)) i (now (codes .entry)) r ⌝ }
+{
+    match side {
+        Side::Append => prefix_table::last_code_at(
+            file,
+            places,
+            lefts,
+            rights,
+            area,
+            n,
+            bytes,
+            i,
+            codes,
+            found,
+        ),
+        Side::Prepend => first_code_at(
+            file,
+            places,
+            lefts,
+            rights,
+            prefixes,
+            area,
+            n,
+            reading,
+            i,
+            codes,
+        ),
+    }
+}
+
+// One byte more, at place i. `found` is scratch.
+pub fn push_core(
+    side: Side,
+    file: &[u8],
+    places: &[u32],
+    lefts: &[u32],
+    rights: &[u32],
+    prefixes: &[u32],
+    area: &[u32],
+    n: usize,
+    i: usize,
+    byte: u8,
+    bytes: &mut [u8],
+    reading: &mut [u8],
+    codes: &mut [u32],
+    counts: &mut [u32],
+    found: &mut [u32; 64],
+)
+    requires { ⌜ PushReady (now file) (now places) (now lefts) (now rights) (now prefixes) (now area) n i (now bytes) (now reading) (now codes) (now counts) ⌝ }
+    ensures { λ r. ⌜ Pushed (now (file .entry)) (now (places .entry)) (now (lefts .entry)) (now (rights .entry)) (now (prefixes .entry)) (now (area .entry)) (sideOf side) n i byte (now (bytes .entry)) (now (reading .entry)) (now (codes .entry)) (now (counts .entry)) (now (bytes .exit)) (now (reading .exit)) (now (codes .exit)) (now (counts .exit)) ⌝ }
+{
+    bytes[i] = byte;
+    let at = 4095 - i;
+    reading[at] = byte;
+    let code = code_at(
+        side,
+        file,
+        places,
+        lefts,
+        rights,
+        prefixes,
+        area,
+        n,
+        bytes,
+        reading,
+        i,
+        codes,
+        found,
+    );
+    codes[i] = code;
+    counts[i] = count_with(file, places, n, counts, i, code);
+}
+
+// The bytes typed behind the first `len`, one after the other.
+pub fn extend_core(
+    side: Side,
+    file: &[u8],
+    places: &[u32],
+    lefts: &[u32],
+    rights: &[u32],
+    prefixes: &[u32],
+    area: &[u32],
+    n: usize,
+    len: usize,
+    bytes: &mut [u8],
+    reading: &mut [u8],
+    codes: &mut [u32],
+    counts: &mut [u32],
+    typed: &[u8],
+)
+    requires { ⌜ ExtendReady (now file) (now places) (now lefts) (now rights) (now prefixes) (now area) n len (now bytes) (now reading) (now codes) (now counts) (now typed) ⌝ }
+    ensures { λ r. ⌜ ExtendedBy (now (file .entry)) (now (places .entry)) (now (lefts .entry)) (now (rights .entry)) (now (prefixes .entry)) (now (area .entry)) (sideOf side) n len (now (bytes .entry)) (now (codes .entry)) (now (counts .entry)) (now (typed .entry)) (now (bytes .exit)) (now (codes .exit)) (now (counts .exit)) ⌝ }
+{
+    let mut found = [0u32; 64];
+    let mut k = 0;
+    while k < typed.len() {
+        push_core(
+            side,
+            file,
+            places,
+            lefts,
+            rights,
+            prefixes,
+            area,
+            n,
+            len + k,
+            typed[k],
+            bytes,
+            reading,
+            codes,
+            counts,
+            &mut found,
+        );
+        k += 1;
+    }
+}
+
+// Whether tables, head and records are in form, with the count of rows if they are; `reading` then has the bytes below the length.
+fn columns_in_form(
+    side: Side,
+    file: &[u8],
+    places: &[u32],
+    lefts: &[u32],
+    rights: &[u32],
+    prefixes: &[u32],
+    area: &[u32],
+    len: usize,
+    size: usize,
+    bytes: &[u8],
+    codes: &[u32],
+    counts: &[u32],
+    reading: &mut [u8],
+) -> Form
+    requires { ⌜ Sizes (now bytes) (now codes) (now counts) (now reading) ⌝ }
+    ensures { λ r. ⌜ Checked (now (file .entry)) (now (places .entry)) (now (lefts .entry)) (now (rights .entry)) (now (prefixes .entry)) (now (area .entry)) (sideOf side) len size (now (bytes .entry)) (now (codes .entry)) (now (counts .entry)) (now (reading .exit)) r ⌝ }
+{
+    let Form::Rows(n) = tables::tables_in_form(file, places, lefts, rights, prefixes, area) else {
+        return Form::Out;
+    };
+    if size < len {
+        return Form::Out;
+    }
+    if 4096 < len {
+        return Form::Out;
+    }
+    fill_reading(bytes, len, reading);
+    if !records_in_form(
+        side,
+        file,
+        places,
+        lefts,
+        rights,
+        area,
+        n,
+        bytes,
+        reading,
+        codes,
+        counts,
+        len,
+    ) {
+        return Form::Out;
+    }
+    Form::Rows(n)
+}
+
+// Push and extend on columns: the answer is the new length.
+pub fn extend_columns(
+    side: Side,
+    file: &[u8],
+    places: &[u32],
+    lefts: &[u32],
+    rights: &[u32],
+    prefixes: &[u32],
+    area: &[u32],
+    len: usize,
+    size: usize,
+    bytes: &mut [u8; 4096],
+    codes: &mut [u32; 4096],
+    counts: &mut [u32; 4096],
+    typed: &[u8],
+) -> Answer
+    ensures { λ r. ⌜ ExtendedColumns (now (file .entry)) (now (places .entry)) (now (lefts .entry)) (now (rights .entry)) (now (prefixes .entry)) (now (area .entry)) (sideOf side) len size (now (bytes .entry)) (now (codes .entry)) (now (counts .entry)) (now (typed .entry)) r (now (bytes .exit)) (now (codes .exit)) (now (counts .exit)) ⌝ }
+{
+    if 4096 < typed.len() {
+        return Answer::Refused(Cause::TooLong);
+    }
+    let mut reading = [0u8; 4096];
+    let Form::Rows(n) = columns_in_form(
+        side,
+        file,
+        places,
+        lefts,
+        rights,
+        prefixes,
+        area,
+        len,
+        size,
+        bytes,
+        codes,
+        counts,
+        &mut reading,
+    ) else {
+        return Answer::Refused(Cause::OutOfForm);
+    };
+    let longer = len + typed.len();
+    if size < longer {
+        return Answer::Refused(Cause::Full(len));
+    }
+    if 4096 < longer {
+        return Answer::Refused(Cause::Full(len));
+    }
+    extend_core(
+        side,
+        file,
+        places,
+        lefts,
+        rights,
+        prefixes,
+        area,
+        n,
+        len,
+        bytes,
+        &mut reading,
+        codes,
+        counts,
+        typed,
+    );
+    Answer::Number(longer)
+}
+
+// `token_count` on columns: the last record's count, 0 at length 0.
+pub fn count_columns(
+    side: Side,
+    file: &[u8],
+    places: &[u32],
+    lefts: &[u32],
+    rights: &[u32],
+    prefixes: &[u32],
+    area: &[u32],
+    len: usize,
+    size: usize,
+    bytes: &[u8; 4096],
+    codes: &[u32; 4096],
+    counts: &[u32; 4096],
+) -> Answer
+    ensures { λ r. ⌜ CountedColumns (now (file .entry)) (now (places .entry)) (now (lefts .entry)) (now (rights .entry)) (now (prefixes .entry)) (now (area .entry)) (sideOf side) len size (now (bytes .entry)) (now (codes .entry)) (now (counts .entry)) r ⌝ }
+{
+    let mut reading = [0u8; 4096];
+    let Form::Rows(_) = columns_in_form(
+        side,
+        file,
+        places,
+        lefts,
+        rights,
+        prefixes,
+        area,
+        len,
+        size,
+        bytes,
+        codes,
+        counts,
+        &mut reading,
+    ) else {
+        return Answer::Refused(Cause::OutOfForm);
+    };
+    if len == 0 {
+        return Answer::Number(0);
+    }
+    Answer::Number(wide(counts[len - 1]))
 }

@@ -1,78 +1,67 @@
--- `merge_encoder::join_at` meets its contract: each turn is one of `Shift`. Assumes nothing.
+-- `merge_encoder::join_at` meets its contract: its steps are those of `Renewing`. Assumes nothing.
 use native.Mathlib.Omega.{arith}
-use Prim.Native.Nat.{_-_}
-use mathlib.Core.Path.{_≡_}
-use lib.ListN.{length}
-use Rattle.merge_encoder.proofs.Shift.{Shifting, shift-start, shift-length, shift-more, shift-end}
+use Rattle.merge_encoder.proofs.Renewing.{at-below, next-below, ready, after-at, at-last, turned-first, turned-last}
 use borrow.Author.Needs.{needs}
 use Rattle.merge_encoder.proofs.join_at.Statement.{statement}
 use Rattle.merge_encoder.proofs.join_at.Tie as tie
 
-abbrev Inv-loop : tie.InvT-loop
-Inv-loop work₀ len at row i₀ work i = Shifting work₀ len at i work
+next-live-requires : tie.Need-next-live-requires
+next-live-requires c κs = (at-below _ _ _ _ _ _ _ _ _ _ (c .before .before .before .before .before .pre .0 .rows-ready) (c .before .before .before .before .before .pre .1 .0) (c .before .before .before .before .before .pre .1 .1), c .before .before .before .before .before .pre .1 .0 .few)
 
-abbrev μ-loop : tie.MeasureT-loop
-μ-loop work₀ len at row i₀ work i = len - i
+next-live-requires-2 : tie.Need-next-live-requires-2
+next-live-requires-2 c κs = (next-below _ _ _ _ _ _ _ _ _ _ (c .before .before .before .before .before .before .before .pre .0 .rows-ready) (c .before .before .before .before .before .before .before .pre .1 .0) (c .before .before .before .before .before .before .before .pre .1 .1) _ (c .before .next-live .ensures), c .before .before .before .before .before .before .before .pre .1 .0 .few)
 
-mul-work : tie.Need-mul-work Inv-loop μ-loop
-mul-work c = search needs
+last-live-requires : tie.Need-last-live-requires
+last-live-requires c κs = search needs
 
-slice-write-work : tie.Need-slice-write-work Inv-loop μ-loop
-slice-write-work c = search needs
+mul-work : tie.Need-mul-work
+mul-work c = omega (arith, at-below _ _ _ _ _ _ _ _ _ _ (c .before .before .before .before .before .before .before .before .before .before .pre .0 .rows-ready) (c .before .before .before .before .before .before .before .before .before .before .pre .1 .0) (c .before .before .before .before .before .before .before .before .before .before .pre .1 .1), c .before .before .before .before .before .before .before .before .before .before .pre .1 .0 .few)
 
-add-i : tie.Need-add-i Inv-loop μ-loop
-add-i c = search needs
+slice-write-work : tie.Need-slice-write-work
+slice-write-work c = omega (arith, at-below _ _ _ _ _ _ _ _ _ _ (c .before .before .before .before .before .before .before .before .before .before .pre .0 .rows-ready) (c .before .before .before .before .before .before .before .before .before .before .pre .1 .0) (c .before .before .before .before .before .before .before .before .before .before .pre .1 .1), c .before .before .before .before .before .before .before .before .before .before .pre .1 .0 .room)
 
-loop-holds : tie.Need-loop-holds Inv-loop μ-loop
-loop-holds c = shift-start (c .args .work .now) _ _ (c .args .row) (c .pre)
+clear-bit-requires : tie.Need-clear-bit-requires
+clear-bit-requires c κs = search needs
 
-mul-work-2 : tie.Need-mul-work-2 Inv-loop μ-loop
-mul-work-2 c = omega (arith, c .before .before .pre .1, c .before .before .fits)
+add-put : tie.Need-add-put
+add-put c = omega (arith, c .before .before .before .before .before .before .before .before .before .before .before .before .before .pre .1 .0 .few)
 
-slice-read-work : tie.Need-slice-read-work Inv-loop μ-loop
-slice-read-work c = omega (arith, c .before .before .before .pre .1, shift-length (c .before .before .before .args .work .now) (c .before .before .before .args .len) (c .before .before .before .args .at) (c .before .before .before .args .row) (c .before .before .before .pre) _ (c .before .before .loop .work) (c .before .before .loop .inv))
+put-requires : tie.Need-put-requires
+put-requires c κs = (c .before .before .before .before .before .before .before .before .before .before .before .before .before .pre .1 .0 .nodes, omega (arith, next-below _ _ _ _ _ _ _ _ _ _ (c .before .before .before .before .before .before .before .before .before .before .before .before .before .pre .0 .rows-ready) (c .before .before .before .before .before .before .before .before .before .before .before .before .before .pre .1 .0) (c .before .before .before .before .before .before .before .before .before .before .before .before .before .pre .1 .1) _ (c .before .before .before .before .before .before .before .next-live .ensures)))
 
-sub-work : tie.Need-sub-work Inv-loop μ-loop
-sub-work c = omega (arith, c .before .before .loop .inv .from)
+renew-requires : tie.Need-renew-requires
+renew-requires c κs = ((c .before .before .before .before .before .before .before .before .before .before .before .before .before .before .before .before .before .before .pre .0, ready _ _ _ _ _ _ _ _ _ _ (c .before .before .before .before .before .before .before .before .before .before .before .before .before .before .before .before .before .before .pre .0 .rows-ready) (c .before .before .before .before .before .before .before .before .before .before .before .before .before .before .before .before .before .before .pre .1 .0) (c .before .before .before .before .before .before .before .before .before .before .before .before .before .before .before .before .before .before .pre .1 .1) _ (c .before .before .before .before .before .before .before .before .before .before .before .before .next-live .ensures) _ (c .before .before .before .before .before .before .before .before .before .before .next-live2 .ensures) _ (c .before .before .before .before .before .before .before .before .last-live .ensures) _ (c .before .before .before .before .before .before .clear-bit .ensures) _ (c .before .before .before .before .put .ensures) _ (c .before .before .before .before .put .ensures .tree)), (c .before .before .before .before .put .ensures .tree, after-at _ _ _ _ _ _ _ _ _ _ (c .before .before .before .before .before .before .before .before .before .before .before .before .before .before .before .before .before .before .pre .0 .rows-ready) (c .before .before .before .before .before .before .before .before .before .before .before .before .before .before .before .before .before .before .pre .1 .0) (c .before .before .before .before .before .before .before .before .before .before .before .before .before .before .before .before .before .before .pre .1 .1) _ (c .before .before .before .before .before .before .before .before .before .before .before .before .next-live .ensures) _ (c .before .before .before .before .before .before .before .before .before .before .next-live2 .ensures) _ (c .before .before .before .before .before .before .before .before .last-live .ensures) _ (c .before .before .before .before .before .before .clear-bit .ensures) _ (c .before .before .before .before .put .ensures)))
 
-mul-work-3 : tie.Need-mul-work-3 Inv-loop μ-loop
-mul-work-3 c = omega (arith, c .before .before .before .pre .1, c .before .before .before .fits)
+same-length : tie.Need-same-length
+same-length c = search needs
 
-slice-write-work-2 : tie.Need-slice-write-work-2 Inv-loop μ-loop
-slice-write-work-2 c = omega (arith, c .before .before .before .pre .1, shift-length (c .before .before .before .args .work .now) (c .before .before .before .args .len) (c .before .before .before .args .at) (c .before .before .before .args .row) (c .before .before .before .pre) _ (c .before .before .loop .work) (c .before .before .loop .inv))
+returns : tie.Need-returns
+returns c = record { known = c .before .renew .ensures .known; is = turned-first _ _ _ _ _ _ _ _ _ _ (c .before .before .before .before .before .before .before .before .before .before .before .before .before .before .before .before .before .before .before .before .pre .0 .rows-ready) (c .before .before .before .before .before .before .before .before .before .before .before .before .before .before .before .before .before .before .before .before .pre .1 .0) (c .before .before .before .before .before .before .before .before .before .before .before .before .before .before .before .before .before .before .before .before .pre .1 .1) _ (c .before .before .before .before .before .before .before .before .before .before .before .before .before .before .next-live .ensures) _ (c .before .before .before .before .before .before .before .before .before .before .before .before .next-live2 .ensures) _ (c .before .before .before .before .before .before .before .before .before .before .last-live .ensures) _ (c .before .before .before .before .before .before .before .before .clear-bit .ensures) _ (c .before .before .before .before .before .before .put .ensures) _ (c .before .renew .ensures .is) (c .if1 .taken) }
 
-add-i-2 : tie.Need-add-i-2 Inv-loop μ-loop
-add-i-2 c = omega (arith, c .before .before .before .fits)
+renew-requires-2 : tie.Need-renew-requires-2
+renew-requires-2 c κs = ((record { rows-ready = c .before .before .before .before .before .before .before .before .before .before .before .before .before .before .before .before .before .before .before .before .before .before .before .before .pre .0 .rows-ready; known = c .before .before .before .before .before .renew .ensures .known }, ready _ _ _ _ _ _ _ _ _ _ (c .before .before .before .before .before .before .before .before .before .before .before .before .before .before .before .before .before .before .before .before .before .before .before .before .pre .0 .rows-ready) (c .before .before .before .before .before .before .before .before .before .before .before .before .before .before .before .before .before .before .before .before .before .before .before .before .pre .1 .0) (c .before .before .before .before .before .before .before .before .before .before .before .before .before .before .before .before .before .before .before .before .before .before .before .before .pre .1 .1) _ (c .before .before .before .before .before .before .before .before .before .before .before .before .before .before .before .before .before .before .next-live .ensures) _ (c .before .before .before .before .before .before .before .before .before .before .before .before .before .before .before .before .next-live2 .ensures) _ (c .before .before .before .before .before .before .before .before .before .before .before .before .before .before .last-live .ensures) _ (c .before .before .before .before .before .before .before .before .before .before .before .before .clear-bit .ensures) _ (c .before .before .before .before .before .before .before .before .before .before .put .ensures) _ (c .before .before .before .before .before .renew .ensures .is .nodes)), (c .before .before .before .before .before .renew .ensures .is .nodes, at-last _ _ _ _ _ _ _ _ _ _ (c .before .before .before .before .before .before .before .before .before .before .before .before .before .before .before .before .before .before .before .before .before .before .before .before .pre .0 .rows-ready) (c .before .before .before .before .before .before .before .before .before .before .before .before .before .before .before .before .before .before .before .before .before .before .before .before .pre .1 .0) (c .before .before .before .before .before .before .before .before .before .before .before .before .before .before .before .before .before .before .before .before .before .before .before .before .pre .1 .1) _ (c .before .before .before .before .before .before .before .before .before .before .before .before .before .before .before .before .before .before .next-live .ensures) _ (c .before .before .before .before .before .before .before .before .before .before .before .before .before .before .before .before .next-live2 .ensures) _ (c .before .before .before .before .before .before .before .before .before .before .before .before .before .before .last-live .ensures) _ (c .before .before .before .before .before .before .before .before .before .before .before .before .clear-bit .ensures) _ (c .before .before .before .before .before .before .before .before .before .before .put .ensures) (c .before .before .before .before .if1 .left)))
 
-loop-less : tie.Need-loop-less Inv-loop μ-loop
-loop-less c = omega (arith, c .before .loop-test .taken)
+same-length-2 : tie.Need-same-length-2
+same-length-2 c = search needs
 
-loop-again : tie.Need-loop-again Inv-loop μ-loop
-loop-again c = shift-more (c .before .before .before .args .work .now) _ _ (c .before .before .before .args .row) (c .before .before .before .pre) _ _ (c .before .before .loop .inv) (c .before .loop-test .taken)
-
-same-length : tie.Need-same-length Inv-loop μ-loop
-same-length c = shift-length (c .before .before .args .work .now) _ _ (c .before .before .args .row) (c .before .before .pre) _ _ (c .before .loop .inv)
-
-returns : tie.Need-returns Inv-loop μ-loop
-returns c = shift-end (c .before .before .args .work .now) _ _ (c .before .before .args .row) (c .before .before .pre) _ _ (c .before .loop .inv) (c .loop-test .left)
+returns-2 : tie.Need-returns-2
+returns-2 c = record { known = c .renew2 .ensures .known; is = turned-last _ _ _ _ _ _ _ _ _ _ (c .before .before .before .before .before .before .before .before .before .before .before .before .before .before .before .before .before .before .before .before .before .before .before .before .before .pre .0 .rows-ready) (c .before .before .before .before .before .before .before .before .before .before .before .before .before .before .before .before .before .before .before .before .before .before .before .before .before .pre .1 .0) (c .before .before .before .before .before .before .before .before .before .before .before .before .before .before .before .before .before .before .before .before .before .before .before .before .before .pre .1 .1) _ (c .before .before .before .before .before .before .before .before .before .before .before .before .before .before .before .before .before .before .before .next-live .ensures) _ (c .before .before .before .before .before .before .before .before .before .before .before .before .before .before .before .before .before .next-live2 .ensures) _ (c .before .before .before .before .before .before .before .before .before .before .before .before .before .before .before .last-live .ensures) _ (c .before .before .before .before .before .before .before .before .before .before .before .before .before .clear-bit .ensures) _ (c .before .before .before .before .before .before .before .before .before .before .before .put .ensures) _ (c .before .before .before .before .before .before .renew .ensures .is) _ (c .before .before .before .before .before .if1 .left) (c .renew2 .ensures .is) }
 
 pub join-at-spec : {M : Type 1} → statement M
 join-at-spec =
     tie.close
     (tie.spec
-    Inv-loop
-    μ-loop
+    next-live-requires
+    next-live-requires-2
+    last-live-requires
     mul-work
     slice-write-work
-    add-i
-    loop-holds
-    mul-work-2
-    slice-read-work
-    sub-work
-    mul-work-3
-    slice-write-work-2
-    add-i-2
-    loop-less
-    loop-again
+    clear-bit-requires
+    add-put
+    put-requires
+    renew-requires
     same-length
-    returns)
+    returns
+    renew-requires-2
+    same-length-2
+    returns-2)

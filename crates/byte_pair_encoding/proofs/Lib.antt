@@ -1,0 +1,5 @@
+pub mod Checking
+pub mod Sending
+pub mod Counting
+pub mod Promises
+pub mod RoundTrip

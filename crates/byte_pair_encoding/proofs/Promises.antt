@@ -1,0 +1,141 @@
+-- What a caller has of the contracts: over tables that an accepting build left, with a text of at most 4,096 bytes and room for it, no call is
+-- refused and the answer is the definition's; a refusal changes nothing. Assumes nothing.
+use mathlib.Core.Path.{_≡_, refl, sym, ap, _∙_}
+use mathlib.Core.Logic.{_⊎_}
+use mathlib.Core.Option.{Option, none, some}
+use mathlib.Core.List.{List, _++_}
+use Prim.Native.Nat.{ℕ, _≤_, _<_}
+use native.Mathlib.Omega.{arith}
+use lib.ListN.{length, drop}
+use Rattle.causes.specs.declared.Cause.{Cause}
+use Rattle.causes.specs.declared.Cause.the-variants.{TooShort, OutOfForm, TooLong}
+use Rattle.phrase_file.specs.Form.{rows}
+use Rattle.theory.specs.Dictionary.{Dictionary, Octets}
+use Rattle.theory.specs.Merge.{encode}
+use Rattle.theory.specs.Backtracking.{Limited, counted, over, start, countTillLimit}
+use Rattle.theory.proofs.CountLimit.{PassedAfter}
+use Rattle.theory.proofs.Demands.{limited-count-is, limited-count-over, limited-count-over-only}
+use Rattle.tables.specs.declared.Answer.{Answer}
+use Rattle.tables.specs.declared.Answer.the-variants.{Number, Refused}
+use Rattle.tables.specs.declared.Form.the-variants as Form
+use Rattle.tables.specs.InForm.{formOf}
+use Rattle.answers.specs.Answers.{answered}
+use Rattle.answers.specs.Refusals.{sendRefusal, countRefusal}
+use Rattle.answers.proofs.Refusals.{count-as-send, too-long, short-output, short-work, out-of-form, not-refused}
+use Rattle.built.specs.Built.{dictionaryOf, Built}
+use Rattle.built.proofs.InForm.{in-form}
+use Rattle.byte_pair_encoding.specs.declared.LimitAnswer.{LimitAnswer}
+use Rattle.byte_pair_encoding.specs.declared.LimitAnswer.the-variants as LimitAnswer
+use Rattle.byte_pair_encoding.specs.Answers.{limitAnswered}
+use Rattle.byte_pair_encoding.specs.Sending.{Sends}
+use Rattle.byte_pair_encoding.specs.Counting.{Counts, CountsTillLimit}
+
+-- an answer that is a number is no refusal
+pub number-answered : (refusal : Option Cause) (count k : ℕ) → answered refusal count ≡ Number k → (refusal ≡ none) × (count ≡ k)
+number-answered none count k e = (refl, cc)
+number-answered (some cause) count k e = absurd (let z : _≡_ {A = ℕ} 0 1 = cc in omega arith)
+
+module _ (file placeTable lefts rights prefixes area text : List ℕ) (n : ℕ) (B : Built file placeTable lefts rights prefixes area n) (short : length text ≤ 4096) where
+  -- tables that build left are in form, so that nothing is left to refuse
+  pub sending-allowed : (out work : List ℕ) → length text ≤ length out → length text ≤ length work
+      → sendRefusal text out work (formOf file placeTable lefts rights prefixes area) ≡ none
+  sending-allowed out work o w = not-refused text out work _ n short o w (in-form file placeTable lefts rights prefixes area n B)
+
+  pub counting-allowed : (work : List ℕ) → length text ≤ length work → countRefusal text work (formOf file placeTable lefts rights prefixes area) ≡ none
+  counting-allowed work w = count-as-send text work _ ∙ sending-allowed work work w w
+
+-- encoders
+
+-- the codes w are answered by their number and stand at the front of the output, the rest of it as before
+pub record SentCodes (w out out' : List ℕ) (r : Answer) : Type 0 where
+  pub answer : r ≡ Number (length w)
+  pub codes : out' ≡ w ++ drop (length w) out
+
+-- a refusal: the buffers are unchanged
+pub record SendRefused (cause : Cause) (out work out' work' : List ℕ) (r : Answer) : Type 0 where
+  pub answer : r ≡ Refused cause
+  pub out-kept : out' ≡ out
+  pub work-kept : work' ≡ work
+
+module _ (M : Dictionary → List ℕ → List ℕ) (file placeTable lefts rights prefixes area text out work out' work' : List ℕ) (r : Answer)
+    (s : Sends M file placeTable lefts rights prefixes area text out work out' work' r) where
+  pub sends-refused : (cause : Cause) → sendRefusal text out work (formOf file placeTable lefts rights prefixes area) ≡ some cause
+      → SendRefused cause out work out' work' r
+  sends-refused cause e =
+      let k = s .refused cause e in
+      record { answer = s .answer ∙ ap (λ (o : Option Cause). answered o (s .count)) e; out-kept = k .0; work-kept = k .1 }
+
+  -- the causes in their order, each whatever the later ones say: 9, 7, 8
+  pub sends-too-long : 4096 < length text → SendRefused TooLong out work out' work' r
+  sends-too-long h = sends-refused TooLong (too-long text out work _ h)
+
+  pub sends-short-output : length text ≤ 4096 → length out < length text → SendRefused TooShort out work out' work' r
+  sends-short-output s h = sends-refused TooShort (short-output text out work _ s h)
+
+  pub sends-short-work : length text ≤ 4096 → length text ≤ length out → length work < length text → SendRefused TooShort out work out' work' r
+  sends-short-work s o h = sends-refused TooShort (short-work text out work _ s o h)
+
+  pub sends-out-of-form : length text ≤ 4096 → length text ≤ length out → length text ≤ length work
+      → formOf file placeTable lefts rights prefixes area ≡ Form.Out → SendRefused OutOfForm out work out' work' r
+  sends-out-of-form s o w e = sends-refused OutOfForm (out-of-form text out work _ s o w e)
+
+  pub sends-codes : (n : ℕ) → Built file placeTable lefts rights prefixes area n → length text ≤ 4096 → length text ≤ length out → length text ≤ length work
+      → SentCodes (M (dictionaryOf file) text) out out' r
+  sends-codes n B short o w =
+      let e = sending-allowed file placeTable lefts rights prefixes area text n B short out work o w in
+      let b = s .built n B e in
+      record {
+        answer = s .answer ∙ ap (λ (q : Option Cause). answered q (s .count)) e ∙ ap Number (b .0);
+        codes = b .1 ∙ ap (λ (k : ℕ). M (dictionaryOf file) text ++ drop k out) (b .0);
+      }
+
+-- `count`
+module _ (file placeTable lefts rights prefixes area text work work' : List ℕ) (r : Answer)
+    (s : Counts file placeTable lefts rights prefixes area text work work' r) where
+  pub counts-refused : (cause : Cause) → countRefusal text work (formOf file placeTable lefts rights prefixes area) ≡ some cause → (r ≡ Refused cause) × (work' ≡ work)
+  counts-refused cause e = (s .answer ∙ ap (λ (o : Option Cause). answered o (s .count)) e, s .refused cause e)
+
+  pub counts-codes : (n : ℕ) → Built file placeTable lefts rights prefixes area n → length text ≤ 4096 → length text ≤ length work
+      → r ≡ Number (length (encode (dictionaryOf file) text))
+  counts-codes n B short w =
+      let e = counting-allowed file placeTable lefts rights prefixes area text n B short work w in
+      s .answer ∙ ap (λ (q : Option Cause). answered q (s .count)) e ∙ ap Number (s .built n B e)
+
+-- `count_till_limit`
+module _ (file placeTable lefts rights prefixes area text : List ℕ) (limit : ℕ) (work work' : List ℕ) (r : LimitAnswer)
+    (s : CountsTillLimit file placeTable lefts rights prefixes area text limit work work' r) where
+  pub limits-refused : (cause : Cause) → countRefusal text work (formOf file placeTable lefts rights prefixes area) ≡ some cause
+      → (r ≡ LimitAnswer.Refused cause) × (work' ≡ work)
+  limits-refused cause e = (s .answer ∙ ap (λ (o : Option Cause). limitAnswered o (s .limited)) e, s .refused cause e)
+
+  module _ (n : ℕ) (B : Built file placeTable lefts rights prefixes area n) (short : length text ≤ 4096) (room : length text ≤ length work) where
+    -- the answer is the definition's
+    pub limits-count : r ≡ limitAnswered none (countTillLimit (dictionaryOf file) text limit)
+    limits-count =
+        let e = counting-allowed file placeTable lefts rights prefixes area text n B short work room in
+        s .answer ∙ ap (λ (q : Option Cause). limitAnswered q (s .limited)) e ∙ ap (limitAnswered none) (s .built n B e .0)
+
+    counted-of : (l : Limited) (k : ℕ) → limitAnswered none l ≡ LimitAnswer.Counted k → l ≡ counted k
+    counted-of (counted m) k e = let q : m ≡ k = cc in ap counted q
+    counted-of over k e = absurd (let z : _≡_ {A = ℕ} 0 1 = cc in omega arith)
+
+    over-of : (l : Limited) → limitAnswered none l ≡ LimitAnswer.Over → l ≡ over
+    over-of (counted m) e = absurd (let z : _≡_ {A = ℕ} 0 1 = cc in omega arith)
+    over-of over e = refl
+
+    module _ (o : Octets text) where
+      -- a count that is given is the number of the merge procedure's codes, and does not pass the limit
+      pub limits-counted : (k : ℕ) → r ≡ LimitAnswer.Counted k → (k ≡ length (encode (dictionaryOf file) text)) × (k ≤ limit)
+      unfolding dictionaryOf
+      limits-counted k e = limited-count-is (rows file) (B .accepted) text o limit k (counted-of _ k (sym limits-count ∙ e))
+
+      -- a number of codes that passes the limit is "over"
+      pub limits-over : limit < length (encode (dictionaryOf file) text) → r ≡ LimitAnswer.Over
+      unfolding dictionaryOf
+      limits-over h = limits-count ∙ ap (limitAnswered none) (limited-count-over (rows file) (B .accepted) text o limit h)
+
+      -- it is "over" only then, or if the running count passed limit + 10 after a step that did not finish the text
+      pub limits-over-only : r ≡ LimitAnswer.Over
+          → (limit < length (encode (dictionaryOf file) text)) ⊎ ((j : ℕ) × PassedAfter (dictionaryOf file) text limit j (start (dictionaryOf file) text))
+      unfolding dictionaryOf
+      limits-over-only e = limited-count-over-only (rows file) (B .accepted) text o limit (over-of _ (sym limits-count ∙ e))

@@ -1,0 +1,171 @@
+-- The cases of an encoder's contract, and each encoder over tables in form as one of them. Assumes nothing.
+use mathlib.Core.Path.{_≡_, refl, sym, subst, _∙_}
+use mathlib.Core.Option.{none, some}
+use mathlib.Core.List.{List, _++_}
+use Prim.Native.Nat.{ℕ, _<_}
+use native.Mathlib.Omega.{arith}
+use lib.ListN.{length, getD, drop}
+use Rattle.causes.specs.declared.Cause.{Cause}
+use Rattle.phrase_file.specs.Form.{rows}
+use Rattle.phrase_file.proofs.Checks.{accepted}
+use Rattle.theory.specs.Dictionary.{Dictionary}
+use Rattle.theory.specs.Merge.{encode}
+use Rattle.theory.specs.Shortest.{shortest, greedy}
+use Rattle.tables.specs.declared.Answer.the-variants.{Number, Refused}
+use Rattle.tables.specs.InForm.{formOf}
+use Rattle.answers.specs.Refusals.{sendRefusal}
+use Rattle.built.specs.Built.{dictionaryOf, Built}
+use Rattle.backtrack_encoder.specs.Answers.{OutputReady, EncodedInto}
+use Rattle.merge_encoder.specs.Encoding as Merge
+use Rattle.prefix_table.specs.Walk.{TableReady, TableCodes}
+use Rattle.shortest_encoder.specs.Encoders.{MinimalReady, MinimalIs, GreedyReady, GreedyIs}
+use Rattle.byte_pair_encoding.specs.declared.Check.the-variants as Check
+use Rattle.byte_pair_encoding.specs.Answers.{checkedOf}
+use Rattle.byte_pair_encoding.specs.Sending.{Written, Sends}
+use Rattle.byte_pair_encoding.proofs.Checking.{Passed, refused, passed}
+
+-- a refusal is not no refusal
+pub some-none : (cause : Cause) → some cause ≡ none → ⊥
+some-none cause e = let z : _≡_ {A = ℕ} 0 1 = cc in omega arith
+
+module _ (file placeTable lefts rights prefixes area : List ℕ) where
+  -- the count of rows is the same for everybody
+  pub built-count : (m n : ℕ) → n ≡ length (rows file) → Built file placeTable lefts rights prefixes area m → Built file placeTable lefts rights prefixes area n
+  built-count m n e B =
+      let q : m ≡ n = accepted file m (B .passed) .count ∙ sym e in subst (λ (k : ℕ). Built file placeTable lefts rights prefixes area k) q B
+
+module _ (M : Dictionary → List ℕ → List ℕ) (file placeTable lefts rights prefixes area text out work : List ℕ) where
+  pub nothing-sent : (cause : Cause) → checkedOf (sendRefusal text out work (formOf file placeTable lefts rights prefixes area)) (length (rows file)) ≡ Check.Refused cause
+      → Sends M file placeTable lefts rights prefixes area text out work out work (Refused cause)
+  nothing-sent cause e =
+      let q = refused file placeTable lefts rights prefixes area text out work cause e in
+      record {
+        count = 0;
+        answer = rw q;
+        refused = λ d f. (refl, refl);
+        written = λ f. absurd (some-none cause (sym q ∙ f));
+        built = λ n B f. absurd (some-none cause (sym q ∙ f));
+      }
+
+  sent : (n count : ℕ) (out' work' : List ℕ) → Passed file placeTable lefts rights prefixes area text out work n
+      → Written file text out work out' work' count → (Built file placeTable lefts rights prefixes area n → (count ≡ length (M (dictionaryOf file) text)) × (out' ≡ M (dictionaryOf file) text ++ drop count out))
+      → Sends M file placeTable lefts rights prefixes area text out work out' work' (Number count)
+  sent n count out' work' p w b =
+      record {
+        count = count;
+        answer = rw (p .not-refused);
+        refused = λ d f. absurd (some-none d (sym f ∙ p .not-refused));
+        written = λ f. w;
+        built = λ m B f. b (built-count file placeTable lefts rights prefixes area m n (p .count) B);
+      }
+
+module _ (file placeTable lefts rights prefixes area text out work : List ℕ) (n : ℕ)
+    (e : checkedOf (sendRefusal text out work (formOf file placeTable lefts rights prefixes area)) (length (rows file)) ≡ Check.Rows n) where
+  p : Passed file placeTable lefts rights prefixes area text out work n
+  p = passed file placeTable lefts rights prefixes area text out work n e
+
+  codes-below : (out' : List ℕ) (count : ℕ) → ((i : ℕ) → i < count → getD out' i 0 < n) → (i : ℕ) → i < count → getD out' i 0 < length (rows file)
+  codes-below out' count h i l = omega (arith, h i l, p .count)
+
+  pub bitfield-ready : Merge.EncodeReady file placeTable area n text out work
+  bitfield-ready = record {
+    rows-ready = record { places-ready = p .tables .places-ready; area-room = p .tables .area-room };
+    short = p .short;
+    out-room = p .out-room;
+    work-room = p .work-room;
+  }
+
+  pub bitfield-sent : (out' work' : List ℕ) (count : ℕ) → Merge.Encoded file placeTable area n text out out' work work' count
+      → Sends encode file placeTable lefts rights prefixes area text out work out' work' (Number count)
+  bitfield-sent out' work' count s =
+      sent encode file placeTable lefts rights prefixes area text out work n count out' work' p
+      (record {
+        few = s .few;
+        out-length = s .out-length;
+        out-beyond = s .out-beyond;
+        codes = codes-below out' count (s .codes);
+        work-length = s .work-length;
+        work-beyond = s .work-beyond;
+      })
+      (λ B. let r = s .built lefts rights prefixes B in (r .count, r .codes))
+
+  pub backtracking-ready : OutputReady file placeTable lefts rights prefixes area n text out work
+  backtracking-ready = record { ready = record { tables = p .tables; short = p .short; room = p .work-room }; out-room = p .out-room }
+
+  pub backtracking-sent : (out' work' : List ℕ) (count : ℕ) → EncodedInto file placeTable lefts rights prefixes area n text out work count out' work'
+      → Sends encode file placeTable lefts rights prefixes area text out work out' work' (Number count)
+  backtracking-sent out' work' count s =
+      sent encode file placeTable lefts rights prefixes area text out work n count out' work' p
+      (record {
+        few = s .few;
+        out-length = s .out-length;
+        out-beyond = s .out-beyond;
+        codes = codes-below out' count (s .codes);
+        work-length = s .work-length;
+        work-beyond = s .work-beyond;
+      })
+      (λ B. (s .count-is B, rw (s .count-is B) (s .codes-are B)))
+
+  pub table-ready : TableReady file placeTable lefts rights area n text out work
+  table-ready = record {
+    in-form = record { places-ready = p .tables .places-ready; parts-ready = p .tables .parts-ready; area-room = p .tables .area-room };
+    out-room = p .out-room;
+    work-room = p .work-room;
+  }
+
+  pub table-sent : (out' work' : List ℕ) (count : ℕ) → TableCodes file placeTable lefts rights area n text out work out' work' count
+      → Sends encode file placeTable lefts rights prefixes area text out work out' work' (Number count)
+  table-sent out' work' count s =
+      sent encode file placeTable lefts rights prefixes area text out work n count out' work' p
+      (record {
+        few = s .few;
+        out-length = s .out-length;
+        out-beyond = s .out-beyond;
+        codes = codes-below out' count (s .rows);
+        work-length = s .work-length;
+        work-beyond = s .work-beyond;
+      })
+      (s .built prefixes)
+
+  pub minimal-ready : MinimalReady file placeTable prefixes area n text out work
+  minimal-ready = record {
+    ready = record {
+      places-ready = p .tables .places-ready;
+      prefixes-ready = p .tables .prefixes-ready;
+      area-room = p .tables .area-room;
+      few = p .short;
+      room = p .work-room;
+    };
+    out-room = p .out-room;
+  }
+
+  pub minimal-sent : (out' work' : List ℕ) (count : ℕ) → MinimalIs file placeTable prefixes area n text out out' work work' count
+      → Sends shortest file placeTable lefts rights prefixes area text out work out' work' (Number count)
+  minimal-sent out' work' count s =
+      sent shortest file placeTable lefts rights prefixes area text out work n count out' work' p
+      (record {
+        few = s .written .few;
+        out-length = s .written .size;
+        out-beyond = s .written .beyond;
+        codes = codes-below out' count (s .written .rows);
+        work-length = s .work-size;
+        work-beyond = s .work-beyond;
+      })
+      (λ B. let r = s .built lefts rights B in (r .count, r .codes))
+
+  pub greedy-ready : GreedyReady file placeTable area n text out
+  greedy-ready = record { places-ready = p .tables .places-ready; area-room = p .tables .area-room; few = p .short; out-room = p .out-room }
+
+  pub greedy-sent : (out' : List ℕ) (count : ℕ) → GreedyIs file placeTable area n text out out' count
+      → Sends greedy file placeTable lefts rights prefixes area text out work out' work (Number count)
+  greedy-sent out' count s =
+      sent greedy file placeTable lefts rights prefixes area text out work n count out' work p
+      (record {
+        few = s .written .few;
+        out-length = s .written .size;
+        out-beyond = s .written .beyond;
+        codes = codes-below out' count (s .written .rows);
+        work-length = refl;
+        work-beyond = refl;
+      })
+      (λ B. let r = s .built lefts rights prefixes B in (r .count, r .codes))

@@ -1,0 +1,307 @@
+// Sending and counting: each call checks its arguments, and then runs the encoder over tables in form.
+ghost use mathlib.Core.Path.{_≡_};
+ghost use mathlib.Core.Option.{none};
+ghost use lib.ListN.{length};
+ghost use Rattle.phrase_file.specs.Form.{rows};
+ghost use Rattle.theory.specs.Merge.{encode};
+ghost use Rattle.theory.specs.Shortest.{shortest, greedy};
+ghost use Rattle.tables.specs.InForm.{formOf};
+ghost use Rattle.answers.specs.Refusals.{sendRefusal};
+ghost use Rattle.backtrack_encoder.specs.Answers as Answers;
+ghost use Rattle.byte_pair_encoding.specs.Answers.{checkedOf, limitAnswerOf, limitAnswered};
+ghost use Rattle.byte_pair_encoding.specs.Sending.{Sends};
+ghost use Rattle.byte_pair_encoding.specs.Counting.{Counts, CountsTillLimit};
+use backtrack_encoder::Limited;
+use backtrack_encoder::count_core;
+use backtrack_encoder::count_till_limit_core;
+use backtrack_encoder::encode_via_backtracking_core;
+use causes::Cause;
+use merge_encoder::encode_via_bitfield_core;
+use prefix_table::encode_via_table_core;
+use shortest_encoder::encode_greedy_core;
+use shortest_encoder::encode_minimal_core;
+use tables::Answer;
+use tables::Form;
+
+// The count of rows, or why a call is refused.
+enum Check {
+    Rows(usize),
+    Refused(Cause),
+}
+
+// The answer of a count with a limit.
+pub enum LimitAnswer {
+    Counted(usize),
+    Over,
+    Refused(Cause),
+}
+
+// The number of such an answer: 0 if it is no refusal.
+pub fn limit_answer_number(answer: LimitAnswer) -> u32
+    ensures { λ r. ⌜ r ≡ limitAnswerOf answer .number ⌝ }
+{
+    match answer {
+        LimitAnswer::Counted(_) => 0,
+        LimitAnswer::Over => 0,
+        LimitAnswer::Refused(cause) => causes::cause_number(cause),
+    }
+}
+
+// The place of such an answer: its count, and none for "over", if it is no refusal.
+pub fn limit_answer_place(answer: LimitAnswer) -> u64
+    ensures { λ r. ⌜ r ≡ limitAnswerOf answer .place ⌝ }
+{
+    match answer {
+        LimitAnswer::Counted(count) => count as u64,
+        LimitAnswer::Over => 4294967295,
+        LimitAnswer::Refused(cause) => causes::cause_place(cause),
+    }
+}
+
+// The count or "over" as an answer.
+fn told(limited: Limited) -> LimitAnswer
+    ensures { λ r. ⌜ r ≡ limitAnswered none (Answers.limitedOf limited) ⌝ }
+{
+    match limited {
+        Limited::Counted(count) => LimitAnswer::Counted(count),
+        Limited::Over => LimitAnswer::Over,
+    }
+}
+
+// Whether a call is refused: a text over 4,096 bytes, an output or work buffer with less than one number per byte, tables out of form, in this order.
+fn checked(
+    file: &[u8],
+    places: &[u32],
+    lefts: &[u32],
+    rights: &[u32],
+    prefixes: &[u32],
+    area: &[u32],
+    text: &[u8],
+    out: &[u32],
+    work: &[u32],
+) -> Check
+    ensures { λ r. ⌜ r ≡ checkedOf (sendRefusal (now (text .entry)) (now (out .entry)) (now (work .entry)) (formOf (now (file .entry)) (now (places .entry)) (now (lefts .entry)) (now (rights .entry)) (now (prefixes .entry)) (now (area .entry)))) (length (rows (now (file .entry)))) ⌝ }
+{
+    if 4096 < text.len() {
+        return Check::Refused(Cause::TooLong);
+    }
+    if out.len() < text.len() || work.len() < text.len() {
+        return Check::Refused(Cause::TooShort);
+    }
+    match tables::tables_in_form(file, places, lefts, rights, prefixes, area) {
+        Form::Rows(n) => Check::Rows(n),
+        Form::Out => Check::Refused(Cause::OutOfForm),
+    }
+}
+
+// The merge procedure's codes for the text, to the front of `out`, and how many.
+pub fn encode_via_bitfield(
+    file: &[u8],
+    places: &[u32],
+    lefts: &[u32],
+    rights: &[u32],
+    prefixes: &[u32],
+    area: &[u32],
+    text: &[u8],
+    out: &mut [u32],
+    work: &mut [u32],
+) -> Answer
+    ensures { λ r. ⌜ Sends encode (now (file .entry)) (now (places .entry)) (now (lefts .entry)) (now (rights .entry)) (now (prefixes .entry)) (now (area .entry)) (now (text .entry)) (now (out .entry)) (now (work .entry)) (now (out .exit)) (now (work .exit)) r ⌝ }
+{
+    match checked(file, places, lefts, rights, prefixes, area, text, out, work) {
+        Check::Rows(n) => {
+            let merged = encode_via_bitfield_core(file, places, area, n, text, out, work);
+            Answer::Number(merged)
+        }
+        Check::Refused(cause) => Answer::Refused(cause),
+    }
+}
+
+// The same codes by backtracking.
+pub fn encode_via_backtracking(
+    file: &[u8],
+    places: &[u32],
+    lefts: &[u32],
+    rights: &[u32],
+    prefixes: &[u32],
+    area: &[u32],
+    text: &[u8],
+    out: &mut [u32],
+    work: &mut [u32],
+) -> Answer
+    ensures { λ r. ⌜ Sends encode (now (file .entry)) (now (places .entry)) (now (lefts .entry)) (now (rights .entry)) (now (prefixes .entry)) (now (area .entry)) (now (text .entry)) (now (out .entry)) (now (work .entry)) (now (out .exit)) (now (work .exit)) r ⌝ }
+{
+    match checked(file, places, lefts, rights, prefixes, area, text, out, work) {
+        Check::Rows(n) => {
+            let backtracked = encode_via_backtracking_core(
+                file,
+                places,
+                lefts,
+                rights,
+                prefixes,
+                area,
+                n,
+                text,
+                out,
+                work,
+            );
+            Answer::Number(backtracked)
+        }
+        Check::Refused(cause) => Answer::Refused(cause),
+    }
+}
+
+// The same codes by the table of last codes.
+pub fn encode_via_table(
+    file: &[u8],
+    places: &[u32],
+    lefts: &[u32],
+    rights: &[u32],
+    prefixes: &[u32],
+    area: &[u32],
+    text: &[u8],
+    out: &mut [u32],
+    work: &mut [u32],
+) -> Answer
+    ensures { λ r. ⌜ Sends encode (now (file .entry)) (now (places .entry)) (now (lefts .entry)) (now (rights .entry)) (now (prefixes .entry)) (now (area .entry)) (now (text .entry)) (now (out .entry)) (now (work .entry)) (now (out .exit)) (now (work .exit)) r ⌝ }
+{
+    match checked(file, places, lefts, rights, prefixes, area, text, out, work) {
+        Check::Rows(n) => {
+            let walked = encode_via_table_core(
+                file,
+                places,
+                lefts,
+                rights,
+                area,
+                n,
+                text,
+                out,
+                work,
+            );
+            Answer::Number(walked)
+        }
+        Check::Refused(cause) => Answer::Refused(cause),
+    }
+}
+
+// The fewest codes that spell the text, to the front of `out`, and how many; among those the longest first row, then the longest second, and so on.
+pub fn encode_minimal(
+    file: &[u8],
+    places: &[u32],
+    lefts: &[u32],
+    rights: &[u32],
+    prefixes: &[u32],
+    area: &[u32],
+    text: &[u8],
+    out: &mut [u32],
+    work: &mut [u32],
+) -> Answer
+    ensures { λ r. ⌜ Sends shortest (now (file .entry)) (now (places .entry)) (now (lefts .entry)) (now (rights .entry)) (now (prefixes .entry)) (now (area .entry)) (now (text .entry)) (now (out .entry)) (now (work .entry)) (now (out .exit)) (now (work .exit)) r ⌝ }
+{
+    match checked(file, places, lefts, rights, prefixes, area, text, out, work) {
+        Check::Rows(n) => {
+            let fewest = encode_minimal_core(file, places, prefixes, area, n, text, out, work);
+            Answer::Number(fewest)
+        }
+        Check::Refused(cause) => Answer::Refused(cause),
+    }
+}
+
+// The longest row at each place, to the front of `out`, and how many. The work buffer is asked for, as of every encoder, and not used.
+pub fn encode_greedy(
+    file: &[u8],
+    places: &[u32],
+    lefts: &[u32],
+    rights: &[u32],
+    prefixes: &[u32],
+    area: &[u32],
+    text: &[u8],
+    out: &mut [u32],
+    work: &mut [u32],
+) -> Answer
+    ensures { λ r. ⌜ Sends greedy (now (file .entry)) (now (places .entry)) (now (lefts .entry)) (now (rights .entry)) (now (prefixes .entry)) (now (area .entry)) (now (text .entry)) (now (out .entry)) (now (work .entry)) (now (out .exit)) (now (work .exit)) r ⌝ }
+{
+    match checked(file, places, lefts, rights, prefixes, area, text, out, work) {
+        Check::Rows(n) => {
+            let longest = encode_greedy_core(file, places, area, n, text, out);
+            Answer::Number(longest)
+        }
+        Check::Refused(cause) => Answer::Refused(cause),
+    }
+}
+
+// The number of the merge procedure's codes for the text.
+pub fn count(
+    file: &[u8],
+    places: &[u32],
+    lefts: &[u32],
+    rights: &[u32],
+    prefixes: &[u32],
+    area: &[u32],
+    text: &[u8],
+    work: &mut [u32],
+) -> Answer
+    ensures { λ r. ⌜ Counts (now (file .entry)) (now (places .entry)) (now (lefts .entry)) (now (rights .entry)) (now (prefixes .entry)) (now (area .entry)) (now (text .entry)) (now (work .entry)) (now (work .exit)) r ⌝ }
+{
+    match checked(
+        file,
+        places,
+        lefts,
+        rights,
+        prefixes,
+        area,
+        text,
+        work,
+        work,
+    ) {
+        Check::Rows(n) => {
+            let counted = count_core(file, places, lefts, rights, prefixes, area, n, text, work);
+            Answer::Number(counted)
+        }
+        Check::Refused(cause) => Answer::Refused(cause),
+    }
+}
+
+// The number of the merge procedure's codes for the text, or "over".
+pub fn count_till_limit(
+    file: &[u8],
+    places: &[u32],
+    lefts: &[u32],
+    rights: &[u32],
+    prefixes: &[u32],
+    area: &[u32],
+    text: &[u8],
+    limit: u64,
+    work: &mut [u32],
+) -> LimitAnswer
+    ensures { λ r. ⌜ CountsTillLimit (now (file .entry)) (now (places .entry)) (now (lefts .entry)) (now (rights .entry)) (now (prefixes .entry)) (now (area .entry)) (now (text .entry)) limit (now (work .entry)) (now (work .exit)) r ⌝ }
+{
+    match checked(
+        file,
+        places,
+        lefts,
+        rights,
+        prefixes,
+        area,
+        text,
+        work,
+        work,
+    ) {
+        Check::Rows(n) => {
+            let limited = count_till_limit_core(
+                file,
+                places,
+                lefts,
+                rights,
+                prefixes,
+                area,
+                n,
+                text,
+                limit,
+                work,
+            );
+            told(limited)
+        }
+        Check::Refused(cause) => LimitAnswer::Refused(cause),
+    }
+}

@@ -1,0 +1,5 @@
+pub mod Parents
+pub mod Sizing
+pub mod Placing
+pub mod Preparing
+pub mod Answers

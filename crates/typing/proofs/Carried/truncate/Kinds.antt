@@ -1,0 +1,24 @@
+-- Made by tools/carry: the borrow checker's `Kinds` of the twin of `truncate`, carried over to the structs. Assumes nothing.
+use Rattle.typing.proofs.StateKit
+use Rattle.typing.proofs.HeadKit
+use Rattle.tables.proofs.Answer
+use Rattle.tables.proofs.Answer.Laws
+use borrow.Fn.Kinds
+use borrow.Kind.ShrSlice
+use borrow.Kind.Value
+use borrow.Rule.Local
+use borrow.Table.Referent
+use borrow.Table.Rows
+use denote.Array
+use denote.Enum.Declared
+use denote.Enum.Laws as Laws'
+use denote.Exit
+use mathlib.Core.List
+use mathlib.Core.Path as Path'
+use mir.Syntax
+
+abbrev pub ps : List.List (Kinds.PK 2)
+ps = List._∷_ (Kinds.pMut HeadKit.row 0 tt) (List._∷_ (ShrSlice.pShrS StateKit.row 1 tt) (List._∷_ (Kinds.pNum Syntax.w64) List.[]))
+
+abbrev pub r : Kinds.RK 2
+r = Value.rVal record { ty = Declared.row Answer.the-type; one = Path'.refl; val = Laws'.val Answer.the-type Laws.the-laws; tells = Laws'.tells Answer.the-type Laws.the-laws; still = Laws'.still Answer.the-type Laws.the-copy Exit.yes; row = Rows.whole (Declared.row Answer.the-type); rd = λ x. x; mk = λ x. x } λ M 𝓤 H A W. record { copies = Laws'.copy Answer.the-type Laws.the-copy 𝓤 H A W; lawful = Laws'.lawful Answer.the-type Laws.the-laws 𝓤 H A W tt; makes = Laws'.makes Answer.the-type Laws.the-plain 𝓤 H A; in-mem = Local.mem-whole 𝓤 H A W (Declared.row Answer.the-type); of-mem = Local.whole-mem 𝓤 H A W (Declared.row Answer.the-type) }

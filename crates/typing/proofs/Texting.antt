@@ -1,0 +1,235 @@
+-- A text typed byte by byte: what holds after i bytes, and what one byte more gives. Assumes nothing.
+use mathlib.Core.Path.{_≡_, refl, sym, _∙_, ap, subst}
+use mathlib.Core.Option.{Option, none, some}
+use mathlib.Core.List.{List, [], _∷_, _++_}
+use mathlib.Core.Bool.{Bool, true, false}
+use mathlib.Core.Logic.{_⊎_, ⊎-elim}
+use Prim.Native.Nat.{ℕ, suc, _+_, _<_, _≤_, min}
+use native.Mathlib.Nat.{eq-or-lt-of-le, lt-irrefl}
+use native.Mathlib.Numerals.{add-one}
+use native.Mathlib.Omega.{arith}
+use lib.ListN.{length, getD, set, take, drop, length-set, length-map, length-take, List·getD-map}
+use lib.Seq.{getD-take, getD-set-same, getD-set-other, drop-set-lt, drop-drop, ext-getD, take-suc, take-take, length-take-le}
+use borrow.Author.Tests.{le-ltb}
+use Rattle.theory.specs.Dictionary.{Dictionary, Octets}
+use Rattle.theory.specs.Merge.{encode}
+use Rattle.theory.specs.Typing.{Side, Entry, inOrder, endCode, inForm, codeAt, countAt, entryAt}
+use Rattle.theory.proofs.Lists.{lt-or-ge}
+use Rattle.theory.proofs.Encode.{encode-spells}
+use Rattle.theory.proofs.Decoding.{codes-fit}
+use Rattle.theory.proofs.Sides.{length-inOrder}
+use Rattle.theory.proofs.Typing.{trues-form}
+use Rattle.causes.specs.declared.Cause.{Cause}
+use Rattle.tables.specs.InForm.{formOf}
+use Rattle.tables.specs.declared.Form.{Form}
+use Rattle.tables.specs.declared.Answer.{Answer}
+use Rattle.tables.specs.declared.Answer.the-variants.{Number}
+use Rattle.tables.proofs.Sweeps.{each-all}
+use Rattle.built.specs.Built.{dictionaryOf, Built}
+use Rattle.built.proofs.Rows.{lawful-is, known}
+use Rattle.built.proofs.InForm.{in-form}
+use Rattle.typing_core.specs.Refusals.{headOut, extendRefusal, tokenCountRefusal}
+use Rattle.typing_core.specs.Columns.{FormOf}
+use Rattle.typing.specs.declared.State.{State}
+use Rattle.typing.specs.Records.{noState, entryOf, bytesOf, codesOf, countsOf}
+use Rattle.typing.specs.Steps.{endAfter}
+use Rattle.typing.specs.Calls.{Extended, TokenCounted}
+use Rattle.typing.specs.Text.{TextTyped}
+use Rattle.typing.proofs.Ending.{head-in, end-refused, end-given}
+use Rattle.typing.proofs.Refusals.{extends}
+use Rattle.typing.proofs.Agreeing.{form-at}
+
+-- the first i records are those of the text
+pub record Standing (D : Dictionary) (side : Side) (text : List ℕ) (i len : ℕ) (states : List State) : Type 0 where
+  pub len-is : len ≡ i
+  pub few : i ≤ 4096
+  pub records : (j : ℕ) → j < i → entryOf (getD states j noState) ≡ entryAt D side text j
+
+module _ (D : Dictionary) (side : Side) (text : List ℕ) (i len : ℕ) (states : List State) (S : Standing D side text i len states) where
+  byte-at : (j : ℕ) → j < i → getD (bytesOf states) j 0 ≡ getD text j 0
+  unfolding entryAt
+  byte-at j h = List·getD-map (λ (s : State). s .byte) states j noState ∙ ap (λ (x : Entry). x .byte) (S .records j h)
+
+  code-at : (j : ℕ) → j < i → getD (codesOf states) j 0 ≡ codeAt D side text j
+  unfolding entryAt
+  code-at j h = List·getD-map (λ (s : State). s .code) states j noState ∙ ap (λ (x : Entry). x .code) (S .records j h)
+
+  count-at : (j : ℕ) → j < i → getD (countsOf states) j 0 ≡ countAt D side text j
+  unfolding entryAt
+  count-at j h = List·getD-map (λ (s : State). s .count) states j noState ∙ ap (λ (x : Entry). x .count) (S .records j h)
+
+  -- the bytes below the length are the text's
+  text-is : length states ≡ 4096 → i ≤ length text → take len (bytesOf states) ≡ take i text
+  text-is slice fits = ext-getD 0 (take len (bytesOf states)) (take i text) (omega (arith, long, length-take-le i text fits))
+      (λ j h. getD-take len (bytesOf states) j 0 (omega (arith, h, long, S .len-is)) ∙ byte-at j (omega (arith, h, long)) ∙ sym (getD-take i text j 0 (omega (arith, h, long))))
+    where
+      long : length (take len (bytesOf states)) ≡ i
+      long = length-take-le len (bytesOf states) (omega (arith, S .len-is, S .few, slice, length-map states (λ (s : State). s .byte))) ∙ S .len-is
+
+-- a record rests on the bytes up to it
+entry-up-to : (D : Dictionary) (side : Side) (text : List ℕ) (i : ℕ) → entryAt D side (take (suc i) text) i ≡ entryAt D side text i
+unfolding entryAt codeAt countAt
+entry-up-to D side text i =
+    let byte : getD (take (suc i) text) i 0 ≡ getD text i 0 = getD-take (suc i) text i 0 (omega arith) in
+    let bytes : take (suc i) (take (suc i) text) ≡ take (suc i) text = take-take (suc i) (suc i) text (omega arith) in
+    λ j. record { byte = byte j; code = endCode side (encode D (inOrder side (bytes j))); count = length (encode D (inOrder side (bytes j))) }
+
+module _ (file placeTable lefts rights prefixes area : List ℕ) (n : ℕ) (B : Built file placeTable lefts rights prefixes area n) (side : Side) (text : List ℕ) where
+  abbrev D : Dictionary
+  D = dictionaryOf file
+
+  abbrev form-is : Form
+  form-is = formOf file placeTable lefts rights prefixes area
+
+  -- a count is no more than the bytes
+  count-small : (i : ℕ) → countAt D side text i ≤ suc i
+  unfolding countAt
+  count-small i =
+      let t = inOrder side (take (suc i) text) in
+      let L = lawful-is file placeTable lefts rights prefixes area n B in
+      omega (arith, codes-fit D L (encode D t), ap length (encode-spells D L t), length-inOrder side (take (suc i) text), length-take (suc i) text)
+
+  module _ (i len : ℕ) (states : List State) (octets : Octets text) (S : Standing D side text i len states) (slice : length states ≡ 4096) (text-fits : i ≤ length text) where
+    head-is : headOut len (length states) ≡ false
+    head-is = head-in len (length states) (omega (arith, S .len-is, S .few)) (omega (arith, S .len-is, S .few))
+
+    -- true records are in form
+    fine-is : (fine : Bool) → FormOf file placeTable lefts rights prefixes area side len (length states) (bytesOf states) (codesOf states) (countsOf states) fine → fine ≡ true
+    fine-is fine form =
+        let same : take i (bytesOf states) ≡ take i text = subst (λ (k : ℕ). take k (bytesOf states) ≡ take i text) (S .len-is) (text-is D side text i len states S slice text-fits) in
+        form .built n B head-is
+        ∙ each-all (inForm D side (bytesOf states) (codesOf states) (countsOf states)) len
+        (λ j h. let below : j < i = omega (arith, h, S .len-is) in
+        form-at D side i (bytesOf states) (codesOf states) (countsOf states) text (codesOf states) (countsOf states) same refl refl j below
+        ∙ trues-form D side (lawful-is file placeTable lefts rights prefixes area n B) text (known file placeTable lefts rights prefixes area n B text octets) (codesOf states) (countsOf states)
+        i text-fits (λ k l. record { code = code-at D side text i len states S k l; count = count-at D side text i len states S k l }) j below)
+
+    -- where there is a record left, a push is not refused
+    passes : (b : ℕ) (fine : Bool) → FormOf file placeTable lefts rights prefixes area side len (length states) (bytesOf states) (codesOf states) (countsOf states) fine
+        → i < 4096 → extendRefusal form-is len (length states) fine (b ∷ []) ≡ none
+    unfolding extendRefusal
+    passes b fine form h = rw (
+      in-form file placeTable lefts rights prefixes area n B,
+      fine-is fine form,
+      head-is,
+      le-ltb (length states) (len + length (b ∷ [])) (omega (arith, S .len-is)),
+      le-ltb 4096 (len + length (b ∷ [])) (omega (arith, S .len-is)),
+    )
+
+    -- `token_count` gives the count of the text so far
+    count-is : (k : ℕ) → i ≡ suc k → (r : Answer) → TokenCounted file placeTable lefts rights prefixes area side len states r → r ≡ Number (countAt D side text k)
+    unfolding tokenCountRefusal
+    count-is k e r c =
+        c .answer ∙ rw (in-form file placeTable lefts rights prefixes area n B, fine-is (c .fine) (c .form), head-is, S .len-is ∙ e)
+        (ap Number (count-at D side text i len states S k (omega (arith, e))))
+
+    -- one record more
+    pushed : (b : ℕ) (r : Answer) (len' : ℕ) (states' : List State) (X : Extended file placeTable lefts rights prefixes area side len states (b ∷ []) r len' states')
+        → b ≡ getD text i 0 → i < length text → i < 4096 → Standing D side text (i + 1) len' states'
+    pushed b r len' states' X is within room = record {
+      len-is = X .longer free ∙ ap (λ (k : ℕ). k + 1) (S .len-is);
+      few = omega arith;
+      records = λ j h. ⊎-elim here (below j) (eq-or-lt-of-le (let low : j ≤ i = omega (arith, h) in low));
+    }
+      where
+        free : extendRefusal form-is len (length states) (X .fine) (b ∷ []) ≡ none
+        free = passes b (X .fine) (X .form) room
+
+        texts : take len (bytesOf states) ++ (b ∷ []) ≡ take (suc i) text
+        texts = (λ j. text-is D side text i len states S slice text-fits j ++ (is j ∷ [])) ∙ sym (take-suc text i 0 within)
+
+        last : entryOf (getD states' i noState) ≡ entryAt D side text i
+        last = let at : len + 0 ≡ i = omega (arith, S .len-is) in
+            subst (λ (k : ℕ). entryOf (getD states' k noState) ≡ entryAt D side (take len (bytesOf states) ++ (b ∷ [])) k) at (X .built n B free 0 (omega arith))
+            ∙ ap (λ (t : List ℕ). entryAt D side t i) texts
+            ∙ entry-up-to D side text i
+
+        here : {j : ℕ} → j ≡ i → entryOf (getD states' j noState) ≡ entryAt D side text j
+        here e = subst (λ (k : ℕ). entryOf (getD states' k noState) ≡ entryAt D side text k) (sym e) last
+
+        below : (j : ℕ) → j < i → entryOf (getD states' j noState) ≡ entryAt D side text j
+        below j h =
+            let l : j < len = omega (arith, h, S .len-is) in
+            ap entryOf (sym (getD-take len states' j noState l) ∙ ap (λ (x : List State). getD x j noState) (X .before-kept) ∙ getD-take len states j noState l) ∙ S .records j h
+
+-- what holds after i bytes
+pub record Typing (file placeTable lefts rights prefixes area : List ℕ) (side : Side) (text counts₀ : List ℕ) (i len : ℕ) (states : List State) (counts : List ℕ) : Type 0 where
+  pub text-fits : i ≤ length text
+  pub counts-fit : i ≤ length counts₀
+  pub size-kept : length counts ≡ length counts₀
+  pub slice : length states ≡ 4096
+  pub beyond-kept : drop i counts ≡ drop i counts₀
+  pub standing : (n : ℕ) → Built file placeTable lefts rights prefixes area n → Standing (dictionaryOf file) side text i len states
+  pub counted : (n : ℕ) → Built file placeTable lefts rights prefixes area n → (j : ℕ) → j < i → getD counts j 0 ≡ countAt (dictionaryOf file) side text j
+
+module _ (file placeTable lefts rights prefixes area : List ℕ) (side : Side) (text counts₀ : List ℕ) where
+  pub begins : (len : ℕ) (states : List State) → len ≡ 0 → length states ≡ 4096 → Typing file placeTable lefts rights prefixes area side text counts₀ 0 len states counts₀
+  begins len states e slice = record {
+    text-fits = omega arith;
+    counts-fit = omega arith;
+    size-kept = refl;
+    slice = slice;
+    beyond-kept = refl;
+    standing = λ n B. record { len-is = e; few = omega arith; records = λ j h. absurd (omega (arith, h)) };
+    counted = λ n B j h. absurd (omega (arith, h));
+  }
+
+  module _ (octets : Octets text) (i len : ℕ) (states : List State) (counts : List ℕ) (T : Typing file placeTable lefts rights prefixes area side text counts₀ i len states counts) where
+    -- the end, where the number of bytes is what it has to be
+    pub ends : ((n : ℕ) → Built file placeTable lefts rights prefixes area n → i ≡ min (length text) (min (length counts₀) 4096))
+        → TextTyped file placeTable lefts rights prefixes area side text counts₀ i counts
+    ends e = record { text-fits = T .text-fits; counts-fit = T .counts-fit; size-kept = T .size-kept; beyond-kept = T .beyond-kept; typed = e; counted = T .counted }
+
+    -- the text, or the room for counts, is at its end
+    pub ends-all : (length text ≤ i) ⊎ (length counts₀ ≤ i) → TextTyped file placeTable lefts rights prefixes area side text counts₀ i counts
+    ends-all o = ends (λ n B. let few = T .standing n B .few in ⊎-elim (λ h. omega (arith, T, few, h)) (λ h. omega (arith, T, few, h)) o)
+
+    module _ (b : ℕ) (r : Answer) (len' : ℕ) (states' : List State) (X : Extended file placeTable lefts rights prefixes area side len states (b ∷ []) r len' states') where
+      abbrev refusal : Option Cause
+      refusal = extendRefusal (formOf file placeTable lefts rights prefixes area) len (length states) (X .fine) (b ∷ [])
+
+      -- no record is left
+      pub ends-full : endAfter r i ≡ i → TextTyped file placeTable lefts rights prefixes area side text counts₀ i counts
+      ends-full e = ends (λ n B.
+          let S = T .standing n B in
+          ⊎-elim (λ (h : i < 4096). absurd (let
+          more : endAfter r i ≡ len + 1 = ap (λ (a : Answer). endAfter a i) (X .answer)
+          ∙ end-given refusal (len + 1) i
+          (passes file placeTable lefts rights prefixes area n B side text i len states octets S (T .slice) (T .text-fits) b (X .fine) (X .form) h)
+          in omega (arith, e, more, S .len-is))) (λ h. omega (arith, T, S .few, h)) (lt-or-ge i 4096))
+
+      -- one byte more, where the push was not refused
+      pub more : b ≡ getD text i 0 → i < length text → i < length counts₀ → (endAfter r i ≡ i → ⊥) → (q : Answer) → TokenCounted file placeTable lefts rights prefixes area side len' states' q
+          → (v : ℕ) → v ≡ min (endAfter q 0) 4294967295 → Typing file placeTable lefts rights prefixes area side text counts₀ (i + 1) len' states' (set counts i v)
+      more is within room new q counted v entry = record {
+        text-fits = omega arith;
+        counts-fit = omega arith;
+        size-kept = length-set counts i v ∙ T .size-kept;
+        slice = X .size-kept ∙ T .slice;
+        beyond-kept = drop-set-lt (i + 1) counts i v (omega arith) ∙ sym (drop-drop 1 i counts) ∙ ap (drop 1) (T .beyond-kept) ∙ drop-drop 1 i counts₀;
+        standing = stands;
+        counted = λ n B j h. ⊎-elim
+            (λ e. subst (λ (k : ℕ). getD (set counts i v) k 0 ≡ countAt (dictionaryOf file) side text k) (sym e) (getD-set-same counts i v 0 (omega (arith, T .size-kept)) ∙ last n B))
+            (λ (l : j < i). getD-set-other counts i j v 0 (λ z. lt-irrefl i (subst (λ (k : ℕ). k < i) z l)) ∙ T .counted n B j l)
+            (eq-or-lt-of-le (let low : j ≤ i = omega (arith, h) in low));
+      }
+        where
+          free : refusal ≡ none
+          free = go refusal refl where
+            go : (o : Option Cause) → refusal ≡ o → refusal ≡ none
+            go none e = e
+            go (some cause) e = absurd (new (ap (λ (a : Answer). endAfter a i) (X .answer) ∙ end-refused refusal (len + 1) i cause e))
+
+          stands : (n : ℕ) → Built file placeTable lefts rights prefixes area n → Standing (dictionaryOf file) side text (i + 1) len' states'
+          stands n B =
+              let S = T .standing n B in
+              let fits = extends (formOf file placeTable lefts rights prefixes area) len (length states) (X .fine) (b ∷ []) free in
+              pushed file placeTable lefts rights prefixes area n B side text i len states octets S (T .slice) (T .text-fits) b r len' states' X is within (omega (arith, fits .most-fits, S .len-is))
+
+          last : (n : ℕ) → Built file placeTable lefts rights prefixes area n → v ≡ countAt (dictionaryOf file) side text i
+          last n B =
+              let S = stands n B in
+              let few = S .few in
+              let is-count = count-is file placeTable lefts rights prefixes area n B side text (i + 1) len' states' octets S (X .size-kept ∙ T .slice) (omega arith) i (add-one i) q counted in
+              let end : endAfter q 0 ≡ countAt (dictionaryOf file) side text i = ap (λ (a : Answer). endAfter a 0) is-count in
+              omega (arith, entry, end, count-small file placeTable lefts rights prefixes area n B side text i)

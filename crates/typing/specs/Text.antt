@@ -1,0 +1,17 @@
+-- A whole text typed byte by byte. Assumes nothing.
+use mathlib.Core.Path.{_≡_}
+use mathlib.Core.List.{List}
+use Prim.Native.Nat.{ℕ, _<_, _≤_, min}
+use lib.ListN.{length, getD, drop}
+use Rattle.theory.specs.Typing as Typing
+use Rattle.built.specs.Built.{dictionaryOf, Built}
+
+-- the number of bytes typed, and the count after each; over tables that a build left all are typed for which there is room, and the counts are
+-- those of the merge procedure. Entries from that number on are as before
+pub record TextTyped (file placeTable lefts rights prefixes area : List ℕ) (side : Typing.Side) (text counts : List ℕ) (r : ℕ) (counts' : List ℕ) : Type 0 where
+  pub text-fits : r ≤ length text
+  pub counts-fit : r ≤ length counts
+  pub size-kept : length counts' ≡ length counts
+  pub beyond-kept : drop r counts' ≡ drop r counts
+  pub typed : (n : ℕ) → Built file placeTable lefts rights prefixes area n → r ≡ min (length text) (min (length counts) 4096)
+  pub counted : (n : ℕ) → Built file placeTable lefts rights prefixes area n → (i : ℕ) → i < r → getD counts' i 0 ≡ Typing.countAt (dictionaryOf file) side text i

@@ -1,0 +1,228 @@
+-- The answers of the calls on columns, case by case. Assumes nothing.
+use mathlib.Core.Path.{_≡_, refl, sym, ap, subst, _∙_}
+use mathlib.Core.Option.{none, some}
+use mathlib.Core.List.{List}
+use mathlib.Core.Bool.{Bool, true, false, not, cond, _||_}
+use Prim.Native.Nat.{ℕ, zero, suc, _+_, _-_, _≤_, _<_}
+use native.Mathlib.Omega.{arith}
+use lib.ListN.{length, getD}
+use borrow.Author.Tests.{lt-ltb, le-ltb}
+use Rattle.causes.specs.declared.Cause.{Cause}
+use Rattle.causes.specs.declared.Cause.the-variants.{OutOfForm, TooLong, Full}
+use Rattle.phrase_file.proofs.Checks.{accepted}
+use Rattle.theory.specs.Dictionary.{Octets}
+use Rattle.theory.specs.Typing.{Side, inForm}
+use Rattle.theory.proofs.Typing.{TrueAt, forms-true}
+use Rattle.tables.specs.declared.Form.{Form}
+use Rattle.tables.specs.declared.Form.the-variants.{Rows, Out}
+use Rattle.tables.specs.declared.Answer.the-variants.{Number, Refused}
+use Rattle.tables.specs.InForm.{formOf, allBelow}
+use Rattle.tables.specs.Ready.{PlacesReady}
+use Rattle.tables.proofs.Sweeps.{all-each}
+use Rattle.tables.proofs.Readiness.{ready}
+use Rattle.built.specs.Built.{dictionaryOf, Built}
+use Rattle.built.proofs.Rows.{lawful-is, known}
+use Rattle.typing_core.specs.Refusals.{headOut, anyOut, extendRefusal, tokenCountRefusal}
+use Rattle.typing_core.specs.Columns.{lastCount, FormOf, ExtendedColumns, CountedColumns}
+use Rattle.typing_core.specs.Steps.{Mirrored, Sizes, RecordsReady, RecordsAre, ExtendReady, ExtendedBy, PassedTo, Checked}
+use Rattle.typing_core.proofs.Rows.{parts-in-form}
+
+out-rows : (n : ℕ) → Out ≡ Rows n → ⊥
+out-rows n e = let z : _≡_ {A = ℕ} 0 1 = cc in omega arith
+
+some-none : (cause : Cause) → some cause ≡ none → ⊥
+some-none cause e = let z : _≡_ {A = ℕ} 0 1 = cc in omega arith
+
+-- the answer of the checks tells whether anything is out of form
+any-out : (f : Form) (len size : ℕ) (fine : Bool) → Out ≡ cond (anyOut f len size fine) Out f → anyOut f len size fine ≡ true
+any-out Out len size fine e = refl
+any-out (Rows n) len size fine e = go (headOut len size || not fine) e
+  where
+    go : (b : Bool) → Out ≡ cond b Out (Rows n) → b ≡ true
+    go true q = refl
+    go false q = absurd (out-rows n q)
+
+none-out : (f : Form) (len size : ℕ) (fine : Bool) (n : ℕ) → Rows n ≡ cond (anyOut f len size fine) Out f → anyOut f len size fine ≡ false
+none-out Out len size fine n e = absurd (out-rows n (sym e))
+none-out (Rows m) len size fine n e = go (headOut len size || not fine) e
+  where
+    go : (b : Bool) → Rows n ≡ cond b Out (Rows m) → b ≡ false
+    go true q = absurd (out-rows n (sym q))
+    go false q = refl
+
+-- the refusals of push and extend
+module _ (f : Form) (len size : ℕ) (fine : Bool) (typed : List ℕ) where
+  refuse-long : 4096 < length typed → extendRefusal f len size fine typed ≡ some TooLong
+  unfolding extendRefusal
+  refuse-long h = rw (lt-ltb 4096 (length typed) h)
+
+  module _ (short : length typed ≤ 4096) where
+    refuse-out : anyOut f len size fine ≡ true → extendRefusal f len size fine typed ≡ some OutOfForm
+    unfolding extendRefusal
+    refuse-out e = rw (le-ltb 4096 (length typed) short, e)
+
+    module _ (e : anyOut f len size fine ≡ false) where
+      refuse-slice : size < len + length typed → extendRefusal f len size fine typed ≡ some (Full len)
+      unfolding extendRefusal
+      refuse-slice h = rw (le-ltb 4096 (length typed) short, e, lt-ltb size (len + length typed) h)
+
+      module _ (fits : len + length typed ≤ size) where
+        refuse-most : 4096 < len + length typed → extendRefusal f len size fine typed ≡ some (Full len)
+        unfolding extendRefusal
+        refuse-most h = rw (le-ltb 4096 (length typed) short, e, le-ltb size (len + length typed) fits, lt-ltb 4096 (len + length typed) h)
+
+        refuse-none : len + length typed ≤ 4096 → extendRefusal f len size fine typed ≡ none
+        unfolding extendRefusal
+        refuse-none h = rw (le-ltb 4096 (length typed) short, e, le-ltb size (len + length typed) fits, le-ltb 4096 (len + length typed) h)
+
+last-is : (counts : List ℕ) (len : ℕ) → (len ≡ 0 → ⊥) → lastCount counts len ≡ getD counts (len - 1) 0
+last-is counts zero h = absurd (h refl)
+last-is counts (suc i) h = let z : suc i - 1 ≡ i = omega arith in rw z
+
+-- the count of rows is the same for everybody
+same-build : (file places lefts rights prefixes area : List ℕ) (n m : ℕ) → PlacesReady file places n → Built file places lefts rights prefixes area m → Built file places lefts rights prefixes area n
+same-build file places lefts rights prefixes area n m P B =
+    subst (λ (x : ℕ). Built file places lefts rights prefixes area x) (accepted file m (B .passed) .count ∙ sym (P .count)) B
+
+-- the records may be read
+pub checked-records-ready : (file places lefts rights prefixes area : List ℕ) (len : ℕ) (bytes codes counts reading₀ reading : List ℕ) (n : ℕ)
+    → formOf file places lefts rights prefixes area ≡ Rows n → Sizes bytes codes counts reading₀ → Mirrored bytes reading len
+    → RecordsReady file places lefts rights area n bytes reading codes counts len
+checked-records-ready file places lefts rights prefixes area len bytes codes counts reading₀ reading n e S M = record {
+  in-form = parts-in-form file places lefts rights prefixes area n (ready file places lefts rights prefixes area n e);
+  mirrored = M;
+  codes-size = S .codes-size;
+  counts-size = S .counts-size;
+}
+
+module _ (file places lefts rights prefixes area : List ℕ) (side : Side) (len size : ℕ) (bytes codes counts : List ℕ) where
+  abbrev form : Form
+  form = formOf file places lefts rights prefixes area
+
+  abbrev formed : Bool
+  formed = allBelow len (inForm (dictionaryOf file) side bytes codes counts)
+
+  -- where the records are not looked at, the definition says whether they are in form
+  unread : FormOf file places lefts rights prefixes area side len size bytes codes counts formed
+  unfolding allBelow
+  unread = record { none-yet = λ e. rw e; built = λ n B h. refl }
+
+  module _ (reading : List ℕ) where
+    pub checked-out : form ≡ Out → Checked file places lefts rights prefixes area side len size bytes codes counts reading Out
+    checked-out e = record { fine = formed; form = unread; answer = rw e; passed = λ n z. absurd (out-rows n z) }
+
+    module _ (n : ℕ) (e : form ≡ Rows n) where
+      pub checked-beyond : size < len → Checked file places lefts rights prefixes area side len size bytes codes counts reading Out
+      checked-beyond h = record { fine = formed; form = unread; answer = rw (e, lt-ltb size len h); passed = λ m z. absurd (out-rows m z) }
+
+      pub checked-long : len ≤ size → 4096 < len → Checked file places lefts rights prefixes area side len size bytes codes counts reading Out
+      checked-long h k = record { fine = formed; form = unread; answer = rw (e, le-ltb size len h, lt-ltb 4096 len k); passed = λ m z. absurd (out-rows m z) }
+
+      read : (r : Bool) → RecordsAre file places lefts rights area side n bytes codes counts len r → FormOf file places lefts rights prefixes area side len size bytes codes counts r
+      read r R = record {
+        none-yet = R .none-yet;
+        built = λ m B h. R .built prefixes (same-build file places lefts rights prefixes area n m (ready file places lefts rights prefixes area n e .places-ready) B);
+      }
+
+      module _ (h : len ≤ size) (k : len ≤ 4096) where
+        pub checked-broken : RecordsAre file places lefts rights area side n bytes codes counts len false → Checked file places lefts rights prefixes area side len size bytes codes counts reading Out
+        checked-broken R = record { fine = false; form = read false R; answer = rw (e, le-ltb size len h, le-ltb 4096 len k); passed = λ m z. absurd (out-rows m z) }
+
+        pub checked-passed : RecordsAre file places lefts rights area side n bytes codes counts len true → Mirrored bytes reading len → Octets bytes
+            → Checked file places lefts rights prefixes area side len size bytes codes counts reading (Rows n)
+        checked-passed R M o = record {
+          fine = true;
+          form = read true R;
+          answer = rw (e, le-ltb size len h, le-ltb 4096 len k);
+          passed = λ m z. let q : n ≡ m = cc in subst (λ (x : ℕ). PassedTo file places lefts rights prefixes area side x len bytes reading codes counts) q passed;
+        }
+          where
+            true-at : Built file places lefts rights prefixes area n → (j : ℕ) → j < len → TrueAt (dictionaryOf file) side bytes codes counts j
+            true-at B =
+                forms-true (dictionaryOf file) side (lawful-is file places lefts rights prefixes area n B) bytes (known file places lefts rights prefixes area n B bytes o) codes counts len
+                (omega (arith, M .bytes-size))
+                (all-each (inForm (dictionaryOf file) side bytes codes counts) len (sym (R .built prefixes B)))
+
+            passed : PassedTo file places lefts rights prefixes area side n len bytes reading codes counts
+            passed = record {
+              tables = ready file places lefts rights prefixes area n e;
+              mirrored = M;
+              rows = R .rows refl;
+              small = R .small refl;
+              codes-are = λ B j l. true-at B j l .code;
+              counts-are = λ B j l. true-at B j l .count;
+            }
+
+  -- push and extend
+  module _ (typed bytes' codes' counts' : List ℕ) where
+    refused : (fine : Bool) → FormOf file places lefts rights prefixes area side len size bytes codes counts fine → (cause : Cause) → extendRefusal form len size fine typed ≡ some cause
+        → ExtendedColumns file places lefts rights prefixes area side len size bytes codes counts typed (Refused cause) bytes' codes' counts'
+    refused fine F cause e = record {
+      fine = fine;
+      form = F;
+      answer = rw e;
+      bytes-are = λ z k h. absurd (some-none cause (sym e ∙ z));
+      built = λ n B z k h. absurd (some-none cause (sym e ∙ z));
+    }
+
+    pub extend-long : 4096 < length typed → ExtendedColumns file places lefts rights prefixes area side len size bytes codes counts typed (Refused TooLong) bytes' codes' counts'
+    extend-long h = refused formed unread TooLong (refuse-long form len size formed typed h)
+
+    module _ (short : length typed ≤ 4096) (reading : List ℕ) where
+      pub extend-out : Checked file places lefts rights prefixes area side len size bytes codes counts reading Out
+          → ExtendedColumns file places lefts rights prefixes area side len size bytes codes counts typed (Refused OutOfForm) bytes' codes' counts'
+      extend-out C = refused (C .fine) (C .form) OutOfForm (refuse-out form len size (C .fine) typed short (any-out form len size (C .fine) (C .answer)))
+
+      module _ (n : ℕ) (C : Checked file places lefts rights prefixes area side len size bytes codes counts reading (Rows n)) where
+        right : anyOut form len size (C .fine) ≡ false
+        right = none-out form len size (C .fine) n (C .answer)
+
+        pub extend-slice : size < len + length typed → ExtendedColumns file places lefts rights prefixes area side len size bytes codes counts typed (Refused (Full len)) bytes' codes' counts'
+        extend-slice h = refused (C .fine) (C .form) (Full len) (refuse-slice form len size (C .fine) typed short right h)
+
+        module _ (fits : len + length typed ≤ size) where
+          pub extend-most : 4096 < len + length typed → ExtendedColumns file places lefts rights prefixes area side len size bytes codes counts typed (Refused (Full len)) bytes' codes' counts'
+          extend-most h = refused (C .fine) (C .form) (Full len) (refuse-most form len size (C .fine) typed short right fits h)
+
+          pub extend-done : len + length typed ≤ 4096 → ExtendedBy file places lefts rights prefixes area side n len bytes codes counts typed bytes' codes' counts'
+              → ExtendedColumns file places lefts rights prefixes area side len size bytes codes counts typed (Number (len + length typed)) bytes' codes' counts'
+          extend-done h X = record {
+            fine = C .fine;
+            form = C .form;
+            answer = rw (refuse-none form len size (C .fine) typed short right fits h);
+            bytes-are = λ z k l. X .bytes-are k l;
+            built = λ m B z k l.
+                let P = C .passed n refl in
+                let B' = same-build file places lefts rights prefixes area n m (P .tables .places-ready) B in
+                let t = X .built B' (P .codes-are B') (P .counts-are B') in
+                record { byte = X .bytes-are k l; code = t .0 (len + k) (omega arith); count = t .1 (len + k) (omega arith) };
+          }
+
+  -- what passed the checks has a length in form
+  pub checked-place : (reading : List ℕ) (n : ℕ) → Checked file places lefts rights prefixes area side len size bytes codes counts reading (Rows n) → len ≤ 4096
+  checked-place reading n C = C .passed n refl .mirrored .fits
+
+  -- the columns may be extended
+  pub extend-ready : (typed reading : List ℕ) (n : ℕ) → Checked file places lefts rights prefixes area side len size bytes codes counts reading (Rows n)
+      → len + length typed ≤ 4096 → length codes ≡ 4096 → length counts ≡ 4096 → ExtendReady file places lefts rights prefixes area n len bytes reading codes counts typed
+  extend-ready typed reading n C h c k =
+      let P = C .passed n refl in
+      record { tables = P .tables; room = h; mirrored = P .mirrored; codes-size = c; counts-size = k; rows = P .rows; small = P .small }
+
+  -- `token_count`
+  module _ (reading : List ℕ) where
+    pub count-out : Checked file places lefts rights prefixes area side len size bytes codes counts reading Out
+        → CountedColumns file places lefts rights prefixes area side len size bytes codes counts (Refused OutOfForm)
+    unfolding tokenCountRefusal
+    count-out C = record { fine = C .fine; form = C .form; answer = rw (any-out form len size (C .fine) (C .answer)) }
+
+    module _ (n : ℕ) (C : Checked file places lefts rights prefixes area side len size bytes codes counts reading (Rows n)) where
+      counted : (x : ℕ) → x ≡ lastCount counts len → CountedColumns file places lefts rights prefixes area side len size bytes codes counts (Number x)
+      unfolding tokenCountRefusal
+      counted x e = record { fine = C .fine; form = C .form; answer = rw (none-out form len size (C .fine) n (C .answer)) (ap Number e) }
+
+      pub count-none : len ≡ 0 → CountedColumns file places lefts rights prefixes area side len size bytes codes counts (Number 0)
+      count-none e = counted 0 (rw e)
+
+      pub count-last : (x : ℕ) → (len ≡ 0 → ⊥) → x ≡ getD counts (len - 1) 0 → CountedColumns file places lefts rights prefixes area side len size bytes codes counts (Number x)
+      count-last x h e = counted x (e ∙ sym (last-is counts len h))

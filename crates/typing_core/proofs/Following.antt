@@ -1,0 +1,95 @@
+-- Whether a row follows the code before it, and the count that goes with it, case by case. Assumes nothing.
+use mathlib.Core.Path.{_≡_, refl, sym, _∙_}
+use mathlib.Core.Logic.{_⊎_, inl, inr, ⊎-elim}
+use mathlib.Core.List.{List}
+use mathlib.Core.Bool.{Bool, true, false, _||_}
+use Prim.Native.Nat.{ℕ, suc, _+_, _-_, _≤_, _<_}
+use native.Mathlib.Omega.{arith}
+use lib.ListN.{length, getD}
+use lib.Dec.{ltb, eqb}
+use borrow.Author.Tests.{lt-ltb, le-ltb, ltb-true, eq-eqb, ne-eqb, eqb-true}
+use Rattle.theory.specs.Dictionary.{Dictionary}
+use Rattle.theory.specs.Typing.{Side, passesBeside}
+use Rattle.theory.proofs.Lists.{and-both}
+use Rattle.theory.proofs.TypingLists.{and-true, or-either, or-true}
+use Rattle.token_pair.specs.Pair.{PairIs}
+use Rattle.built.specs.Built.{dictionaryOf}
+use Rattle.built.proofs.Rows.{pair-is}
+use Rattle.prefix_table.proofs.Sizes.{row-some}
+use Rattle.typing_core.specs.declared.Side as Declared
+use Rattle.typing_core.specs.declared.Side.the-variants.{Append, Prepend}
+use Rattle.typing_core.specs.Sides.{sideOf}
+use Rattle.typing_core.specs.Steps.{followsCode, countWith, PairOf, BesideIs, FollowsReady, FollowsIs, CountReady, CountIs}
+
+-- the order of the pair check
+module _ (file places lefts rights area : List ℕ) (s : Declared.Side) (n before c : ℕ) (r : Bool) where
+  pub beside-appended : s ≡ Append → PairIs file places lefts rights area n n before c r → BesideIs file places lefts rights area (sideOf s) n before c r
+  beside-appended e p = record { built = λ prefixes B. rw e (pair-is file places lefts rights prefixes area n B before c r p) }
+
+  pub beside-prepended : s ≡ Prepend → PairIs file places lefts rights area n n c before r → BesideIs file places lefts rights area (sideOf s) n before c r
+  beside-prepended e p = record { built = λ prefixes B. rw e (pair-is file places lefts rights prefixes area n B c before r p) }
+
+or-none : (a b : Bool) → b ≡ false → a ≡ a || b
+or-none true b e = refl
+or-none false b e = sym e
+
+-- the test as a fact
+module _ (D : Dictionary) (side : Side) (codes : List ℕ) (i c : ℕ) where
+  abbrev Follows : Type 0
+  Follows = (length (D .bytes c) ≡ suc i) ⊎ ((length (D .bytes c) < suc i) × (passesBeside D side (getD codes (i - length (D .bytes c)) 0) c ≡ true))
+
+  pub to-follows : followsCode D side codes i c ≡ true → Follows
+  unfolding followsCode
+  to-follows e = ⊎-elim
+      (λ f. inl (eqb-true _ _ f))
+      (λ f. let q = and-both (ltb (length (D .bytes c)) (suc i)) _ f in inr (ltb-true _ _ (q .0), q .1))
+      (or-either (eqb (length (D .bytes c)) (suc i)) _ e)
+
+  pub of-follows : Follows → followsCode D side codes i c ≡ true
+  unfolding followsCode
+  of-follows f = or-true (eqb (length (D .bytes c)) (suc i)) _ (⊎-elim (λ e. inl (eq-eqb _ _ e)) (λ e. inr (and-true (lt-ltb _ _ (e .0)) (e .1))) f)
+
+-- the record before a row
+module _ (file places lefts rights area : List ℕ) (n : ℕ) (codes : List ℕ) (i c len : ℕ)
+    (R : FollowsReady file places lefts rights area n codes i c) (size : len ≡ length (dictionaryOf file .bytes c)) (h : len ≤ i) where
+  pub follows-entry : i - len < i
+  follows-entry = omega (arith, size, row-some file places n c (record { places-ready = R .in-form .places-ready; row = R .row }))
+
+  pub follows-pair-of : PairOf file places lefts rights area n (getD codes (i - len) 0) c
+  follows-pair-of = record { in-form = R .in-form; before-row = R .before .rows (i - len) follows-entry; row = R .row }
+
+module _ (file places lefts rights area : List ℕ) (side : Side) (n : ℕ) (codes : List ℕ) (i c len : ℕ) (size : len ≡ length (dictionaryOf file .bytes c)) where
+  -- the row reaches the first byte or is longer
+  pub follows-whole : i < len → FollowsIs file places lefts rights area side n codes i c (eqb len (i + 1))
+  unfolding followsCode
+  follows-whole h = record {
+    built = λ prefixes B.
+        let z : i + 1 ≡ suc i = omega arith in
+        rw (z, size) (or-none (eqb (length (dictionaryOf file .bytes c)) (suc i)) _ (rw (le-ltb (length (dictionaryOf file .bytes c)) (suc i) (omega arith))));
+  }
+
+  pub follows-beside : len ≤ i → (r : Bool) → BesideIs file places lefts rights area side n (getD codes (i - len) 0) c r → FollowsIs file places lefts rights area side n codes i c r
+  unfolding followsCode
+  follows-beside h r P = record {
+    built = λ prefixes B.
+        P .built prefixes B
+        ∙ rw (size, ne-eqb (length (dictionaryOf file .bytes c)) (suc i) (λ e. omega arith), lt-ltb (length (dictionaryOf file .bytes c)) (suc i) (omega arith));
+  }
+
+module _ (file places : List ℕ) (n : ℕ) (counts : List ℕ) (i c len : ℕ) (R : CountReady file places n counts i c) (size : len ≡ length (dictionaryOf file .bytes c)) where
+  pub count-whole : i < len → CountIs file counts i c 1
+  unfolding countWith
+  count-whole h = record { is = rw (le-ltb (length (dictionaryOf file .bytes c)) (suc i) (omega arith)); small = omega arith }
+
+  module _ (h : len ≤ i) where
+    pub count-entry : i - len < i
+    count-entry = omega (arith, size, row-some file places n c (record { places-ready = R .places-ready; row = R .row }))
+
+    pub count-few : getD counts (i - len) 0 ≤ i
+    count-few = omega (arith, R .small (i - len) count-entry, count-entry)
+
+    pub count-behind : CountIs file counts i c (getD counts (i - len) 0 + 1)
+    unfolding countWith
+    count-behind =
+        let z : getD counts (i - len) 0 + 1 ≡ suc (getD counts (i - len) 0) = omega arith in
+        record { is = rw (z, size, lt-ltb (length (dictionaryOf file .bytes c)) (suc i) (omega arith)); small = omega (arith, count-few) }

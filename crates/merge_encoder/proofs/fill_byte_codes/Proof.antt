@@ -18,7 +18,7 @@ loop-holds : tie.Need-loop-holds Inv-loop μ-loop
 loop-holds c = (fill-start _ _ _ _ _ _ (c .before .before .before .before .before .pre .1), known-start _ _ _ _)
 
 known-code-requires : tie.Need-known-code-requires Inv-loop μ-loop
-known-code-requires c κs = (c .before .before .before .before .before .before .before .before .pre .0, (c .before .loop-test .taken, c .before .before .loop .inv .1))
+known-code-requires c κs = (c .before .before .before .before .before .before .before .before .pre .0, (omega (arith, c .before .loop-test .taken), c .before .before .loop .inv .1))
 
 mul-work : tie.Need-mul-work Inv-loop μ-loop
 mul-work c = search needs

@@ -1,0 +1,5 @@
+pub mod Forms
+pub mod Meeting
+pub mod Counting
+pub mod Answers
+pub mod Together

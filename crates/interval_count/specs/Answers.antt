@@ -1,0 +1,68 @@
+-- What the interval count of document 01 leaves and answers. Assumes nothing.
+use mathlib.Core.Path.{_≡_}
+use mathlib.Core.Option.{Option, none, some}
+use mathlib.Core.List.{List}
+use mathlib.Core.Bool.{Bool, true, not, _||_}
+use Prim.Native.Nat.{ℕ, _+_, _*_, _≤_}
+use lib.ListN.{length, drop}
+use lib.Dec.{ltb}
+use Rattle.causes.specs.declared.Cause.{Cause}
+use Rattle.causes.specs.declared.Cause.the-variants.{TooShort, OutOfForm, TooLong, BadInterval}
+use Rattle.tables.specs.declared.Form.{Form}
+use Rattle.tables.specs.declared.Form.the-variants.{Rows, Out}
+use Rattle.tables.specs.declared.Answer.{Answer}
+use Rattle.tables.specs.InForm.{formOf}
+use Rattle.answers.specs.Answers.{answered}
+use Rattle.answers.specs.Refusals.{when, over, shorter}
+use Rattle.theory.specs.Tree.{intervalCount}
+use Rattle.built.specs.Built.{dictionaryOf, Built}
+use Rattle.backtrack_encoder.specs.Encoder.{TextReady}
+use Rattle.interval_prepare.specs.Tables.{Prepared, intervalInForm}
+
+-- the dictionary tables are out of form, or the interval tables
+abbrev pub anyOut : Form → List ℕ → List ℕ → List ℕ → List ℕ → List ℕ → Bool
+anyOut (Rows n) text lastCodes numbers ends depths = not (intervalInForm n text lastCodes numbers ends depths)
+anyOut Out text lastCodes numbers ends depths = true
+
+-- the interval's start is above its end, or that is above the text's length
+abbrev pub badInterval : List ℕ → ℕ → ℕ → Bool
+badInterval text from to = ltb to from || ltb (length text) to
+
+-- why the interval count is refused: 9, 7, 8, 11
+unfoldable pub intervalRefusal : Form → List ℕ → List ℕ → List ℕ → List ℕ → List ℕ → ℕ → ℕ → List ℕ → Option Cause
+intervalRefusal form text lastCodes numbers ends depths from to work =
+    when (over text) TooLong (when (shorter work text) TooShort (when (anyOut form text lastCodes numbers ends depths) OutOfForm (when (badInterval text from to) BadInterval none)))
+
+-- tables in form, a text of at most 4,096 bytes with a work buffer for it, interval tables in form and an interval of the text
+pub record CoreReady (file places lefts rights prefixes area : List ℕ) (n : ℕ) (text lastCodes numbers ends depths : List ℕ) (from to : ℕ) (work : List ℕ) : Type 0 where
+  pub ready : TextReady file places lefts rights prefixes area n text work
+  pub in-form : intervalInForm n text lastCodes numbers ends depths ≡ true
+  pub ordered : from ≤ to
+  pub inside : to ≤ length text
+
+-- what holds on any tables in form: a number that is left free but for this bound, and a work buffer that is written no further than the text is long
+-- and whose first numbers are free
+pub record Counted (text work : List ℕ) (r : ℕ) (work' : List ℕ) : Type 0 where
+  pub few : r ≤ 2 * length text + 1
+  pub work-length : length work' ≡ length work
+  pub work-beyond : drop (length text) work' ≡ drop (length text) work
+
+-- the count of the interval, over tables that build left and the prepared tables of the text
+pub record CoreCounts (file places lefts rights prefixes area : List ℕ) (n : ℕ) (text lastCodes numbers ends depths : List ℕ) (from to : ℕ) (work : List ℕ) (r : ℕ) (work' : List ℕ) : Type 0 where
+  pub counted : Counted text work r work'
+  pub built : Built file places lefts rights prefixes area n → Prepared file text lastCodes numbers ends depths → r ≡ intervalCount (dictionaryOf file) text from to
+
+module _ (file placeTable lefts rights prefixes area text lastCodes numbers ends depths : List ℕ) (from to : ℕ) (work : List ℕ) where
+  -- the refusal of a call
+  abbrev pub refusal : Option Cause
+  refusal = intervalRefusal (formOf file placeTable lefts rights prefixes area) text lastCodes numbers ends depths from to work
+
+  -- `IntervalEncoding::count`: a refusal (9, 7, 8, 11) leaves the work buffer as it was; else the answer is a number, and over tables that build left
+  -- and the prepared tables of the text it is the count of the piece, the byte at the end not included. Which number it is elsewhere is free
+  pub record Counts (work' : List ℕ) (r : Answer) : Type 0 where
+    pub count : ℕ
+    pub answer : r ≡ answered refusal count
+    pub refused : (cause : Cause) → refusal ≡ some cause → work' ≡ work
+    pub counted : refusal ≡ none → Counted text work count work'
+    pub built : (n : ℕ) → Built file placeTable lefts rights prefixes area n → Prepared file text lastCodes numbers ends depths → refusal ≡ none
+        → count ≡ intervalCount (dictionaryOf file) text from to

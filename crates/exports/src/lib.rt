@@ -1,6 +1,7 @@
 // The C interface: every public call under the name `bpe_` and the call's name. A slice arrives as a pointer and a length in elements.
 // Each returns one number: the cause's number (0 for an answer) times 2^32, plus the place or the answer's number.
 ghost use mathlib.Core.Path.{_≡_};
+ghost use mathlib.Core.List.{[], _∷_};
 ghost use Rattle.causes.specs.Causes.{buildAnswerOf};
 ghost use Rattle.causes.specs.declared.BuildAnswer.{BuildAnswer};
 ghost use Rattle.tables.specs.declared.Answer.{Answer};
@@ -9,7 +10,15 @@ ghost use Rattle.answers.specs.Answers.{answerOf};
 ghost use Rattle.pair_check.specs.declared.PairAnswer.{PairAnswer};
 ghost use Rattle.pair_check.specs.Pair.{PairChecked};
 ghost use Rattle.dictionary.specs.Build.{lent, BuildIs};
+ghost use Rattle.theory.specs.Merge.{encode};
+ghost use Rattle.theory.specs.Shortest.{shortest, greedy};
+ghost use Rattle.decoder.specs.Decoding.{Decodes};
+ghost use Rattle.byte_pair_encoding.specs.declared.LimitAnswer.{LimitAnswer};
+ghost use Rattle.byte_pair_encoding.specs.Answers.{limitAnswerOf};
+ghost use Rattle.byte_pair_encoding.specs.Sending.{Sends};
+ghost use Rattle.byte_pair_encoding.specs.Counting.{Counts, CountsTillLimit};
 ghost use Rattle.exports.specs.Packed.{packed, packedOf, pairAnswerOf, Packs};
+use byte_pair_encoding::LimitAnswer;
 use causes::BuildAnswer;
 use pair_check::PairAnswer;
 use tables::Answer;
@@ -70,6 +79,16 @@ fn pack_pair_answer(answer: PairAnswer) -> u64
     ensures { λ r. ⌜ r ≡ packedOf (pairAnswerOf answer) ⌝ }
 {
     pack(pair_answer_number(answer), pair_answer_place(answer))
+}
+
+// An answer of a count with a limit.
+fn pack_limit_answer(answer: LimitAnswer) -> u64
+    ensures { λ r. ⌜ r ≡ packedOf (limitAnswerOf answer) ⌝ }
+{
+    pack(
+        byte_pair_encoding::limit_answer_number(answer),
+        byte_pair_encoding::limit_answer_place(answer),
+    )
 }
 
 #[no_mangle]
@@ -141,4 +160,214 @@ pub extern "C" fn bpe_token_len(
     ensures { λ r. ⌜ Packs answerOf (λ (a : Answer). a ≡ tokenLenOf (now (file .entry)) (now (places .entry)) (now (lefts .entry)) (now (rights .entry)) (now (prefixes .entry)) (now (area .entry)) token) r ⌝ }
 {
     pack_answer(tables::token_len(file, places, lefts, rights, prefixes, area, token))
+}
+
+#[no_mangle]
+pub extern "C" fn bpe_encode_via_bitfield(
+    file: &[u8],
+    places: &[u32],
+    lefts: &[u32],
+    rights: &[u32],
+    prefixes: &[u32],
+    area: &[u32],
+    text: &[u8],
+    out: &mut [u32],
+    work: &mut [u32],
+) -> u64
+    ensures { λ r. ⌜ Packs answerOf (λ (a : Answer). Sends encode (now (file .entry)) (now (places .entry)) (now (lefts .entry)) (now (rights .entry)) (now (prefixes .entry)) (now (area .entry)) (now (text .entry)) (now (out .entry)) (now (work .entry)) (now (out .exit)) (now (work .exit)) a) r ⌝ }
+{
+    pack_answer(byte_pair_encoding::encode_via_bitfield(
+        file,
+        places,
+        lefts,
+        rights,
+        prefixes,
+        area,
+        text,
+        out,
+        work,
+    ))
+}
+
+#[no_mangle]
+pub extern "C" fn bpe_encode_via_backtracking(
+    file: &[u8],
+    places: &[u32],
+    lefts: &[u32],
+    rights: &[u32],
+    prefixes: &[u32],
+    area: &[u32],
+    text: &[u8],
+    out: &mut [u32],
+    work: &mut [u32],
+) -> u64
+    ensures { λ r. ⌜ Packs answerOf (λ (a : Answer). Sends encode (now (file .entry)) (now (places .entry)) (now (lefts .entry)) (now (rights .entry)) (now (prefixes .entry)) (now (area .entry)) (now (text .entry)) (now (out .entry)) (now (work .entry)) (now (out .exit)) (now (work .exit)) a) r ⌝ }
+{
+    pack_answer(byte_pair_encoding::encode_via_backtracking(
+        file,
+        places,
+        lefts,
+        rights,
+        prefixes,
+        area,
+        text,
+        out,
+        work,
+    ))
+}
+
+#[no_mangle]
+pub extern "C" fn bpe_encode_via_table(
+    file: &[u8],
+    places: &[u32],
+    lefts: &[u32],
+    rights: &[u32],
+    prefixes: &[u32],
+    area: &[u32],
+    text: &[u8],
+    out: &mut [u32],
+    work: &mut [u32],
+) -> u64
+    ensures { λ r. ⌜ Packs answerOf (λ (a : Answer). Sends encode (now (file .entry)) (now (places .entry)) (now (lefts .entry)) (now (rights .entry)) (now (prefixes .entry)) (now (area .entry)) (now (text .entry)) (now (out .entry)) (now (work .entry)) (now (out .exit)) (now (work .exit)) a) r ⌝ }
+{
+    pack_answer(byte_pair_encoding::encode_via_table(
+        file,
+        places,
+        lefts,
+        rights,
+        prefixes,
+        area,
+        text,
+        out,
+        work,
+    ))
+}
+
+#[no_mangle]
+pub extern "C" fn bpe_encode_minimal(
+    file: &[u8],
+    places: &[u32],
+    lefts: &[u32],
+    rights: &[u32],
+    prefixes: &[u32],
+    area: &[u32],
+    text: &[u8],
+    out: &mut [u32],
+    work: &mut [u32],
+) -> u64
+    ensures { λ r. ⌜ Packs answerOf (λ (a : Answer). Sends shortest (now (file .entry)) (now (places .entry)) (now (lefts .entry)) (now (rights .entry)) (now (prefixes .entry)) (now (area .entry)) (now (text .entry)) (now (out .entry)) (now (work .entry)) (now (out .exit)) (now (work .exit)) a) r ⌝ }
+{
+    pack_answer(byte_pair_encoding::encode_minimal(
+        file,
+        places,
+        lefts,
+        rights,
+        prefixes,
+        area,
+        text,
+        out,
+        work,
+    ))
+}
+
+#[no_mangle]
+pub extern "C" fn bpe_encode_greedy(
+    file: &[u8],
+    places: &[u32],
+    lefts: &[u32],
+    rights: &[u32],
+    prefixes: &[u32],
+    area: &[u32],
+    text: &[u8],
+    out: &mut [u32],
+    work: &mut [u32],
+) -> u64
+    ensures { λ r. ⌜ Packs answerOf (λ (a : Answer). Sends greedy (now (file .entry)) (now (places .entry)) (now (lefts .entry)) (now (rights .entry)) (now (prefixes .entry)) (now (area .entry)) (now (text .entry)) (now (out .entry)) (now (work .entry)) (now (out .exit)) (now (work .exit)) a) r ⌝ }
+{
+    pack_answer(byte_pair_encoding::encode_greedy(
+        file,
+        places,
+        lefts,
+        rights,
+        prefixes,
+        area,
+        text,
+        out,
+        work,
+    ))
+}
+
+#[no_mangle]
+pub extern "C" fn bpe_count(
+    file: &[u8],
+    places: &[u32],
+    lefts: &[u32],
+    rights: &[u32],
+    prefixes: &[u32],
+    area: &[u32],
+    text: &[u8],
+    work: &mut [u32],
+) -> u64
+    ensures { λ r. ⌜ Packs answerOf (λ (a : Answer). Counts (now (file .entry)) (now (places .entry)) (now (lefts .entry)) (now (rights .entry)) (now (prefixes .entry)) (now (area .entry)) (now (text .entry)) (now (work .entry)) (now (work .exit)) a) r ⌝ }
+{
+    pack_answer(byte_pair_encoding::count(file, places, lefts, rights, prefixes, area, text, work))
+}
+
+#[no_mangle]
+pub extern "C" fn bpe_count_till_limit(
+    file: &[u8],
+    places: &[u32],
+    lefts: &[u32],
+    rights: &[u32],
+    prefixes: &[u32],
+    area: &[u32],
+    text: &[u8],
+    limit: u64,
+    work: &mut [u32],
+) -> u64
+    ensures { λ r. ⌜ Packs limitAnswerOf (λ (a : LimitAnswer). CountsTillLimit (now (file .entry)) (now (places .entry)) (now (lefts .entry)) (now (rights .entry)) (now (prefixes .entry)) (now (area .entry)) (now (text .entry)) limit (now (work .entry)) (now (work .exit)) a) r ⌝ }
+{
+    pack_limit_answer(byte_pair_encoding::count_till_limit(
+        file,
+        places,
+        lefts,
+        rights,
+        prefixes,
+        area,
+        text,
+        limit,
+        work,
+    ))
+}
+
+#[no_mangle]
+pub extern "C" fn bpe_decode_tokens(
+    file: &[u8],
+    places: &[u32],
+    lefts: &[u32],
+    rights: &[u32],
+    prefixes: &[u32],
+    area: &[u32],
+    tokens: &[u32],
+    out: &mut [u8],
+) -> u64
+    ensures { λ r. ⌜ Packs answerOf (λ (a : Answer). Decodes (now (file .entry)) (now (places .entry)) (now (lefts .entry)) (now (rights .entry)) (now (prefixes .entry)) (now (area .entry)) (now (tokens .entry)) (now (out .entry)) (now (out .exit)) a) r ⌝ }
+{
+    pack_answer(decoder::decode_tokens(file, places, lefts, rights, prefixes, area, tokens, out))
+}
+
+#[no_mangle]
+pub extern "C" fn bpe_token_bytes(
+    file: &[u8],
+    places: &[u32],
+    lefts: &[u32],
+    rights: &[u32],
+    prefixes: &[u32],
+    area: &[u32],
+    token: u32,
+    out: &mut [u8],
+) -> u64
+    ensures { λ r. ⌜ Packs answerOf (λ (a : Answer). Decodes (now (file .entry)) (now (places .entry)) (now (lefts .entry)) (now (rights .entry)) (now (prefixes .entry)) (now (area .entry)) (token ∷ []) (now (out .entry)) (now (out .exit)) a) r ⌝ }
+{
+    pack_answer(decoder::token_bytes(file, places, lefts, rights, prefixes, area, token, out))
 }

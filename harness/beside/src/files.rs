@@ -26,6 +26,21 @@ pub fn grid() -> Vec<Vec<u8>> {
     rows
 }
 
+/// The file that backtracks most: B, "bc", "bbc" and so on up to so many b, then "ab".
+pub fn backtracking(most: usize) -> Vec<Vec<u8>> {
+    let mut rows = bytes();
+    rows.extend((1..=most).map(|k| [&vec![b'b'; k][..], b"c"].concat()));
+    rows.push(b"ab".to_vec());
+    rows
+}
+
+/// B, then one byte repeated 2 times, 3 times and so on.
+pub fn repeated(most: usize) -> Vec<Vec<u8>> {
+    let mut rows = bytes();
+    rows.extend((2..=most).map(|k| vec![b'a'; k]));
+    rows
+}
+
 /// A file of so many rows, trained on a text that looks like English.
 pub fn trained(language: &Language, size: usize) -> Vec<Vec<u8>> {
     let rows = train::rows(&language.text(1, 600_000), size, 64);

@@ -3,30 +3,47 @@ use crate::random::Random;
 
 const EDGE: usize = 16;
 
-#[derive(Clone)]
-pub struct Lent {
-    all: Vec<u32>,
-    before: Vec<u32>,
+/// What a buffer holds: bytes, or numbers of 32 bits.
+pub trait Entry: Copy + PartialEq {
+    fn cut(word: u64) -> Self;
 }
 
-impl Lent {
+impl Entry for u8 {
+    fn cut(word: u64) -> Self {
+        word as u8
+    }
+}
+
+impl Entry for u32 {
+    fn cut(word: u64) -> Self {
+        word as u32
+    }
+}
+
+#[derive(Clone)]
+pub struct Lent<T = u32> {
+    all: Vec<T>,
+    before: Vec<T>,
+}
+
+impl<T: Entry> Lent<T> {
     /// A buffer of so many random numbers.
     pub fn new(random: &mut Random, size: usize) -> Self {
-        let all: Vec<u32> = (0..size + 2 * EDGE).map(|_| random.word() as u32).collect();
+        let all: Vec<T> = (0..size + 2 * EDGE).map(|_| T::cut(random.word())).collect();
         Lent { before: all.clone(), all }
     }
 
-    pub fn part(&mut self) -> &mut [u32] {
+    pub fn part(&mut self) -> &mut [T] {
         let end = self.all.len() - EDGE;
         &mut self.all[EDGE..end]
     }
 
-    pub fn get(&self) -> &[u32] {
+    pub fn get(&self) -> &[T] {
         &self.all[EDGE..self.all.len() - EDGE]
     }
 
     /// The contents when it was lent.
-    pub fn before(&self) -> &[u32] {
+    pub fn before(&self) -> &[T] {
         &self.before[EDGE..self.before.len() - EDGE]
     }
 
@@ -34,6 +51,11 @@ impl Lent {
     pub fn edges_kept(&self) -> bool {
         let end = self.all.len() - EDGE;
         self.all[..EDGE] == self.before[..EDGE] && self.all[end..] == self.before[end..]
+    }
+
+    /// Nothing from this place on was touched, neither in the buffer nor beyond it.
+    pub fn kept_from(&self, at: usize) -> bool {
+        self.edges_kept() && self.get()[at..] == self.before()[at..]
     }
 
     /// What is there now is what was lent.

@@ -1,5 +1,6 @@
 //! What the benchmark and the comparison share: seeded numbers, texts, phrase files, and a model of document 01.
 pub mod cases;
+pub mod encoders;
 pub mod files;
 pub mod lent;
 pub mod model;

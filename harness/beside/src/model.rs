@@ -53,17 +53,21 @@ pub fn check(file: &[u8]) -> Result<Vec<Vec<u8>>, Refusal> {
 
 /// Merging: the neighbours whose joined bytes are the lowest row below the limit, the leftmost first, until there are none.
 pub fn merge(numbers: &HashMap<Vec<u8>, u32>, limit: u32, text: &[u8]) -> Vec<Vec<u8>> {
+    let join = |left: &[u8], right: &[u8]| numbers.get(&[left, right].concat()).copied().filter(|&row| row < limit);
     let mut pieces: Vec<Vec<u8>> = text.iter().map(|&c| vec![c]).collect();
+    let mut joins: Vec<Option<u32>> = pieces.windows(2).map(|p| join(&p[0], &p[1])).collect();
     loop {
-        let best = (1..pieces.len())
-            .filter_map(|i| {
-                let row = numbers.get(&[&pieces[i - 1][..], &pieces[i][..]].concat())?;
-                (*row < limit).then_some((*row, i))
-            })
-            .min();
+        let best = joins.iter().enumerate().filter_map(|(i, row)| row.map(|row| (row, i))).min();
         let Some((_, i)) = best else { return pieces };
-        let right = pieces.remove(i);
-        pieces[i - 1].extend(right);
+        let right = pieces.remove(i + 1);
+        pieces[i].extend(right);
+        joins.remove(i);
+        if i > 0 {
+            joins[i - 1] = join(&pieces[i - 1], &pieces[i]);
+        }
+        if i < joins.len() {
+            joins[i] = join(&pieces[i], &pieces[i + 1]);
+        }
     }
 }
 
@@ -130,6 +134,144 @@ pub fn passes(numbers: &HashMap<Vec<u8>, u32>, left: &[u8], right: &[u8]) -> boo
     merge(numbers, NONE, &[left, right].concat()) == [left, right]
 }
 
+/// The refusal of an encoder or a count: 9, 7, 8.
+pub fn send_refusal(text: usize, buffers: &[usize], form: bool) -> Option<Refusal> {
+    let cause = if text > 4096 {
+        9
+    } else if buffers.iter().any(|&size| size < text) {
+        7
+    } else if !form {
+        8
+    } else {
+        return None;
+    };
+    Some(Refusal { cause, place: 0 })
+}
+
+/// The refusal of decoding: 9, 8, 10, 7.
+pub fn decode_refusal(rows: &[Vec<u8>], codes: &[u32], out: usize, form: bool) -> Option<Refusal> {
+    let (cause, place) = if codes.len() > 4096 {
+        (9, 0)
+    } else if !form {
+        (8, 0)
+    } else if let Some(at) = codes.iter().position(|&c| c as usize >= rows.len()) {
+        (10, at)
+    } else if out < spelled(rows, codes).len() {
+        (7, 0)
+    } else {
+        return None;
+    };
+    Some(Refusal { cause, place: place as u32 })
+}
+
+/// The bytes that codes spell.
+pub fn spelled(rows: &[Vec<u8>], codes: &[u32]) -> Vec<u8> {
+    codes.iter().flat_map(|&c| rows[c as usize].iter().copied()).collect()
+}
+
+/// The rows of an accepted file, for the calls on a text.
+pub struct Phrases {
+    pub rows: Vec<Vec<u8>>,
+    numbers: HashMap<Vec<u8>, u32>,
+    longest: usize,
+    /// The pairs that were asked for.
+    passed: HashMap<(u32, u32), bool>,
+}
+
+impl Phrases {
+    pub fn new(rows: &[Vec<u8>]) -> Self {
+        Phrases {
+            rows: rows.to_vec(),
+            numbers: numbers(rows),
+            longest: rows.iter().map(Vec::len).max().unwrap_or(0),
+            passed: HashMap::new(),
+        }
+    }
+
+    /// The codes of the merge procedure.
+    pub fn encode(&self, text: &[u8]) -> Vec<u32> {
+        merge(&self.numbers, NONE, text).iter().map(|piece| self.numbers[piece]).collect()
+    }
+
+    /// The rows that begin a text, longest first.
+    fn beginning<'a>(&'a self, text: &'a [u8]) -> impl Iterator<Item = u32> + 'a {
+        (1..=self.longest.min(text.len())).rev().filter_map(|size| self.numbers.get(&text[..size]).copied())
+    }
+
+    fn size(&self, code: u32) -> usize {
+        self.rows[code as usize].len()
+    }
+
+    /// The longest row at each place.
+    pub fn greedy(&self, text: &[u8]) -> Vec<u32> {
+        let mut codes = vec![];
+        let mut at = 0;
+        while at < text.len() {
+            let code = self.beginning(&text[at..]).next().unwrap();
+            codes.push(code);
+            at += self.size(code);
+        }
+        codes
+    }
+
+    /// The fewest codes; among those the longest first row, then the longest second, and so on.
+    pub fn shortest(&self, text: &[u8]) -> Vec<u32> {
+        let mut fewest = vec![0; text.len() + 1];
+        for at in (0..text.len()).rev() {
+            fewest[at] = self.beginning(&text[at..]).map(|c| 1 + fewest[at + self.size(c)]).min().unwrap();
+        }
+        let mut codes = vec![];
+        let mut at = 0;
+        while at < text.len() {
+            let good = |&c: &u32| fewest[at] == 1 + fewest[at + self.size(c)];
+            let code = self.beginning(&text[at..]).find(good).unwrap();
+            codes.push(code);
+            at += self.size(code);
+        }
+        codes
+    }
+
+    fn pass(&mut self, left: u32, right: u32) -> bool {
+        let (rows, numbers) = (&self.rows, &self.numbers);
+        *self
+            .passed
+            .entry((left, right))
+            .or_insert_with(|| passes(numbers, &rows[left as usize], &rows[right as usize]))
+    }
+
+    /// Backtracking: the number of codes after each step.
+    pub fn running(&mut self, text: &[u8]) -> Vec<usize> {
+        let mut dead = vec![false; text.len() + 1];
+        let mut codes: Vec<u32> = vec![];
+        let mut counts = vec![];
+        let mut at = 0;
+        while at < text.len() {
+            let rows: Vec<u32> = self.beginning(&text[at..]).collect();
+            let last = codes.last().copied();
+            let good = |&c: &u32| !dead[at + self.size(c)] && last.map_or(true, |last| self.pass(last, c));
+            match rows.into_iter().find(good) {
+                Some(code) => {
+                    codes.push(code);
+                    at += self.size(code);
+                }
+                None => {
+                    dead[at] = true;
+                    at -= self.size(codes.pop().unwrap());
+                }
+            }
+            counts.push(codes.len());
+        }
+        counts
+    }
+}
+
+/// The count of codes, or nothing for "over", by the number of codes after each step.
+pub fn limited(running: &[usize], limit: u64) -> Option<u32> {
+    let (last, before) = running.split_last().unwrap_or((&0, &[]));
+    let over = before.iter().any(|&count| count as u64 > limit.saturating_add(10)) || *last as u64 > limit;
+    (!over).then_some(*last as u32)
+}
+
 /// Whether tables are in form.
 pub fn in_form(t: &ours::Tables) -> bool {
     let Ok(rows) = check(t.file) else { return false };
@@ -185,6 +327,20 @@ mod tests {
         assert!(!passes(&numbers(&f), b"a", b"aa"));
         assert!(passes(&numbers(&f), b"aa", b"a"));
         assert_eq!(built(&g()), refused(6, 0));
+    }
+
+    /// The samples on texts, and the limit of document 01's rule that is no fact about the text.
+    #[test]
+    fn samples_on_texts() {
+        let mut e = Phrases::new(&with(&["bc", "ab", "cd"]));
+        assert_eq!(e.encode(b"abcd"), [97, 256, 100]);
+        assert_eq!(e.shortest(b"abcd"), [257, 258]);
+        assert_eq!(e.greedy(b"abcd"), [257, 258]);
+        assert_eq!(e.running(b"abcd").last(), Some(&3));
+        assert_eq!(Phrases::new(&with(&["aa"])).encode(b"aaa"), [256, 97]);
+        let text = [b"a", &[b'b'; 13][..], b"c"].concat();
+        let running = Phrases::new(&files::backtracking(13)).running(&text);
+        assert_eq!((limited(&running, 2), limited(&running, 3)), (None, Some(2)));
     }
 
     /// What document 01 says of the original on G.

@@ -19,54 +19,62 @@ mod ffi {
             area: *mut u32,
             area_len: usize,
         ) -> u64;
+    }
 
-        pub fn bpe_is_valid_token_pair(
-            file: *const u8,
-            file_len: usize,
-            places: *const u32,
-            places_len: usize,
-            lefts: *const u32,
-            lefts_len: usize,
-            rights: *const u32,
-            rights_len: usize,
-            prefixes: *const u32,
-            prefixes_len: usize,
-            area: *const u32,
-            area_len: usize,
-            token1: u32,
-            token2: u32,
-        ) -> u64;
+    /// Declares exported functions with the file, the tables and the area in front of their own arguments.
+    macro_rules! declare {
+        ($($name:ident($($argument:ident: $kind:ty),*);)*) => {
+            extern "C" {
+                $(pub fn $name(
+                    file: *const u8,
+                    file_len: usize,
+                    places: *const u32,
+                    places_len: usize,
+                    lefts: *const u32,
+                    lefts_len: usize,
+                    rights: *const u32,
+                    rights_len: usize,
+                    prefixes: *const u32,
+                    prefixes_len: usize,
+                    area: *const u32,
+                    area_len: usize
+                    $(, $argument: $kind)*
+                ) -> u64;)*
+            }
+        };
+    }
 
-        pub fn bpe_num_tokens(
-            file: *const u8,
-            file_len: usize,
-            places: *const u32,
-            places_len: usize,
-            lefts: *const u32,
-            lefts_len: usize,
-            rights: *const u32,
-            rights_len: usize,
-            prefixes: *const u32,
-            prefixes_len: usize,
-            area: *const u32,
-            area_len: usize,
-        ) -> u64;
+    /// Declares encoders: text, output, work buffer.
+    macro_rules! declare_encoders {
+        ($($name:ident)*) => {
+            declare! {
+                $($name(
+                    text: *const u8,
+                    text_len: usize,
+                    out: *mut u32,
+                    out_len: usize,
+                    work: *mut u32,
+                    work_len: usize
+                );)*
+            }
+        };
+    }
 
-        pub fn bpe_token_len(
-            file: *const u8,
-            file_len: usize,
-            places: *const u32,
-            places_len: usize,
-            lefts: *const u32,
-            lefts_len: usize,
-            rights: *const u32,
-            rights_len: usize,
-            prefixes: *const u32,
-            prefixes_len: usize,
-            area: *const u32,
-            area_len: usize,
-            token: u32,
-        ) -> u64;
+    declare! {
+        bpe_is_valid_token_pair(token1: u32, token2: u32);
+        bpe_num_tokens();
+        bpe_token_len(token: u32);
+        bpe_token_bytes(token: u32, out: *mut u8, out_len: usize);
+        bpe_decode_tokens(tokens: *const u32, tokens_len: usize, out: *mut u8, out_len: usize);
+        bpe_count(text: *const u8, text_len: usize, work: *mut u32, work_len: usize);
+        bpe_count_till_limit(text: *const u8, text_len: usize, limit: u64, work: *mut u32, work_len: usize);
+    }
+    declare_encoders! {
+        bpe_encode_via_bitfield
+        bpe_encode_via_backtracking
+        bpe_encode_via_table
+        bpe_encode_minimal
+        bpe_encode_greedy
     }
 }
 
@@ -159,6 +167,25 @@ macro_rules! over {
     }};
 }
 
+/// Encoders: the codes to the front of `out`, and how many.
+macro_rules! encoders {
+    ($($(#[$text:meta])* $name:ident, $exported:ident;)*) => {
+        $($(#[$text])*
+        pub fn $name(&self, text: &[u8], out: &mut [u32], work: &mut [u32]) -> Answer<u32> {
+            over!(
+                self,
+                $exported,
+                text.as_ptr(),
+                text.len(),
+                out.as_mut_ptr(),
+                out.len(),
+                work.as_mut_ptr(),
+                work.len()
+            )
+        })*
+    };
+}
+
 impl Tables<'_> {
     /// The count of rows, which is also the check of the tables.
     pub fn num_tokens(&self) -> Answer<u32> {
@@ -173,5 +200,39 @@ impl Tables<'_> {
     /// Whether two codes may stand beside each other.
     pub fn is_valid_token_pair(&self, token1: u32, token2: u32) -> Answer<bool> {
         over!(self, bpe_is_valid_token_pair, token1, token2).map(|passes| passes == 1)
+    }
+
+    encoders! {
+        /// The merge procedure's codes.
+        encode_via_bitfield, bpe_encode_via_bitfield;
+        /// The same by backtracking.
+        encode_via_backtracking, bpe_encode_via_backtracking;
+        /// The same by the last codes of the prefixes.
+        encode_via_table, bpe_encode_via_table;
+        /// The fewest codes.
+        encode_minimal, bpe_encode_minimal;
+        /// The longest row at each place.
+        encode_greedy, bpe_encode_greedy;
+    }
+
+    /// The number of the merge procedure's codes.
+    pub fn count(&self, text: &[u8], work: &mut [u32]) -> Answer<u32> {
+        over!(self, bpe_count, text.as_ptr(), text.len(), work.as_mut_ptr(), work.len())
+    }
+
+    /// The same, or nothing for "over".
+    pub fn count_till_limit(&self, text: &[u8], limit: u64, work: &mut [u32]) -> Answer<Option<u32>> {
+        over!(self, bpe_count_till_limit, text.as_ptr(), text.len(), limit, work.as_mut_ptr(), work.len())
+            .map(|count| (count != NONE).then_some(count))
+    }
+
+    /// The bytes that codes spell, to the front of `out`, and how many.
+    pub fn decode_tokens(&self, tokens: &[u32], out: &mut [u8]) -> Answer<u32> {
+        over!(self, bpe_decode_tokens, tokens.as_ptr(), tokens.len(), out.as_mut_ptr(), out.len())
+    }
+
+    /// The bytes of a row, to the front of `out`, and how many.
+    pub fn token_bytes(&self, token: u32, out: &mut [u8]) -> Answer<u32> {
+        over!(self, bpe_token_bytes, token, out.as_mut_ptr(), out.len())
     }
 }

@@ -1,6 +1,7 @@
-//! Prints one table: each call, ours and the Rust's, in nanoseconds, on three files and three sizes of text. Both run in
-//! turns, and the best of several rounds counts. `bench [ROUNDS [WORD]]`: only the calls whose name has the word.
+//! Prints one table: each call, ours and the Rust's, in nanoseconds, on three files and three sizes of text, and on the
+//! worst texts. Both run in turns, and the best of several rounds counts. `bench [ROUNDS [WORD]]`: only the calls whose name has the word.
 use aneubeck_daachorse::{DoubleArrayAhoCorasick, DoubleArrayAhoCorasickBuilder, MatchKind};
+use beside::encoders::{Encoder, ENCODERS};
 use beside::files;
 use beside::random::Random;
 use beside::text::{digits, Language};
@@ -13,8 +14,8 @@ use std::time::Instant;
 const SIZES: [usize; 3] = [1024, 2048, 4096];
 /// Lookups in one loop.
 const LOOKUPS: usize = 4096;
-/// A round of a call takes about so long.
-const ROUND: f64 = 2_000_000.0;
+/// A round of a call takes about so long: short, so that some rounds are not interrupted on a machine with other work.
+const ROUND: f64 = 300_000.0;
 
 /// A call in its two forms; the time is divided by `per`.
 struct Call<'a> {
@@ -58,10 +59,8 @@ impl<'a> Call<'a> {
 
 /// How often a call fits into a round.
 fn times(call: &mut (dyn FnMut() -> u64 + '_)) -> usize {
-    black_box(call());
-    let start = Instant::now();
-    black_box(call());
-    (ROUND / (start.elapsed().as_nanos() as f64 + 1.0)).clamp(1.0, 1e6) as usize
+    let best = (0..4).map(|_| round(call, 1)).fold(f64::INFINITY, f64::min);
+    (ROUND / (best + 1.0)).clamp(1.0, 1e6) as usize
 }
 
 fn round(call: &mut (dyn FnMut() -> u64 + '_), times: usize) -> f64 {
@@ -92,6 +91,9 @@ fn measure(call: &mut Call, tables: Tables, rounds: usize) -> Times {
     let mut check = || u64::from(tables.num_tokens().unwrap());
     let mut forms: [Option<&mut (dyn FnMut() -> u64 + '_)>; 3] =
         [call.ours.as_mut().map(|f| f.as_mut() as _), call.rust.as_mut().map(|f| f.as_mut() as _), Some(&mut check)];
+    if let [Some(ours), Some(rust), _] = &mut forms {
+        assert_eq!(ours(), rust(), "{}", call.name);
+    }
     let counts: Vec<usize> = forms.iter_mut().map(|f| f.as_mut().map_or(0, |f| times(*f))).collect();
     let mut best = [f64::INFINITY; 3];
     for _ in 0..rounds {
@@ -294,10 +296,14 @@ fn table_calls(sheet: &Sheet) -> Vec<Call<'_>> {
     let n = sheet.rows.len();
     let mut random = Random::new(9);
     let (x, y) = (random.below(n) as u32, random.below(n) as u32);
+    let mut bytes = [0; 64];
     vec![
         Call::new("token_len")
             .ours(move || u64::from(tables.token_len(black_box(x)).unwrap()))
             .rust(move || rust.token_len(black_box(x)) as u64),
+        Call::new("token_bytes")
+            .ours(move || u64::from(tables.token_bytes(black_box(x), &mut bytes).unwrap()))
+            .rust(move || rust.token_bytes(black_box(x)).len() as u64),
         Call::new("is_valid_token_pair")
             .ours(move || u64::from(tables.is_valid_token_pair(black_box(x), black_box(y)).unwrap()))
             .rust(move || rust.probe_pair(black_box(x), black_box(y)) as u64),
@@ -306,24 +312,76 @@ fn table_calls(sheet: &Sheet) -> Vec<Call<'_>> {
 
 /// The calls on a text.
 fn text_calls<'a>(sheet: &'a Sheet, text: &'a [u8]) -> Vec<Call<'a>> {
+    let tables = sheet.tables();
     let rust = &sheet.rust;
+    let size = text.len();
+    let on = |name: &str| Call::new(name).text(size);
+    let encoder = |Encoder { name, ours, rust: theirs, .. }| {
+        let (mut out, mut work) = (vec![0; size], vec![0; size]);
+        let codes = theirs(rust, text);
+        assert_eq!(ours(&tables, text, &mut out, &mut work), Ok(codes.len() as u32), "{name}");
+        assert_eq!(out[..codes.len()], codes, "{name}");
+        on(name)
+            .ours(move || u64::from(ours(&tables, text, &mut out, &mut work).unwrap()))
+            .rust(move || theirs(rust, text).len() as u64)
+    };
+    let limited = |name, limit: u64| {
+        let mut work = vec![0; size];
+        let told = |count: Option<u32>| u64::from(count.unwrap_or(NONE));
+        on(name)
+            .ours(move || told(tables.count_till_limit(text, limit, &mut work).unwrap()))
+            .rust(move || told(rust.count_till_limit(text, limit as usize).map(|count| count as u32)))
+    };
+    let mut work = vec![0; size];
+    let mut bytes = vec![0; size];
     let codes = rust.encode_via_backtracking(text);
-    let on = |name: &str| Call::new(name).text(text.len());
-    vec![
-        on("encode_via_bitfield").rust(move || rust.encode_via_bitfield(text).len() as u64),
-        on("encode_via_backtracking").rust(move || rust.encode_via_backtracking(text).len() as u64),
-        on("encode_via_table").rust(move || rust.encode_via_table(text).len() as u64),
-        on("encode_minimal").rust(move || rust.encode_minimal(text).len() as u64),
-        on("encode_greedy").rust(move || rust.encode_greedy(text).len() as u64),
-        on("count").rust(move || rust.count(text) as u64),
-        on("count_till_limit, no limit").rust(move || rust.count_till_limit(text, usize::MAX).unwrap() as u64),
-        on("decode_tokens").rust(move || rust.decode_tokens(&codes).len() as u64),
+    assert_eq!(tables.decode_tokens(&codes, &mut bytes), Ok(size as u32));
+    assert_eq!(bytes, text);
+    let again = codes.clone();
+    let mut calls: Vec<Call> = ENCODERS.into_iter().map(encoder).collect();
+    calls.extend([
+        on("count")
+            .ours(move || u64::from(tables.count(text, &mut work).unwrap()))
+            .rust(move || rust.count(text) as u64),
+        limited("count_till_limit, no limit", u64::MAX),
+        limited("count_till_limit, 100", 100),
+        on("decode_tokens")
+            .ours(move || u64::from(tables.decode_tokens(&codes, &mut bytes).unwrap()))
+            .rust(move || rust.decode_tokens(&again).len() as u64),
+    ]);
+    calls
+}
+
+/// Measures calls and prints their lines.
+fn lines(sheet: &Sheet, calls: Vec<Call>, rounds: usize, only: &str) {
+    for mut call in calls {
+        if !call.name.contains(only) {
+            continue;
+        }
+        let times = measure(&mut call, sheet.tables(), rounds);
+        if call.checks {
+            let check = times.ours.map(|_| times.check);
+            line(&call.name, sheet, call.text, times.ours, check, times.core(), times.rust);
+        } else {
+            line(&call.name, sheet, call.text, None, None, times.ours, times.rust);
+        }
+    }
+}
+
+/// One byte 4,096 times, and the text that backtracks most.
+fn worst() -> [Sheet; 3] {
+    let size = SIZES[2];
+    let piece = [b"a", &[b'b'; 62][..], b"c"].concat();
+    [
+        Sheet::new("1,356 rows, grid, one digit", files::grid(), vec![b'0'; size]),
+        Sheet::new("319 rows, a to a^64, a", files::repeated(64), vec![b'a'; size]),
+        Sheet::new("320 rows, b^k c, a b^62 c", files::backtracking(63), piece.repeat(size / piece.len())),
     ]
 }
 
 fn main() {
     let mut words = std::env::args().skip(1);
-    let rounds = words.next().map(|w| w.parse().expect("a number of rounds")).unwrap_or(8);
+    let rounds = words.next().map(|w| w.parse().expect("a number of rounds")).unwrap_or(40);
     let only = words.next().unwrap_or_default();
     let language = Language::new(1, 6000);
     let english = language.text(2, SIZES[2]);
@@ -353,17 +411,9 @@ fn main() {
         for size in SIZES {
             calls.extend(text_calls(sheet, &sheet.text[..size]));
         }
-        for mut call in calls {
-            if !call.name.contains(&only) {
-                continue;
-            }
-            let times = measure(&mut call, tables, rounds);
-            if call.checks {
-                let check = times.ours.map(|_| times.check);
-                line(&call.name, sheet, call.text, times.ours, check, times.core(), times.rust);
-            } else {
-                line(&call.name, sheet, call.text, None, None, times.ours, times.rust);
-            }
-        }
+        lines(sheet, calls, rounds, &only);
+    }
+    for sheet in worst() {
+        lines(&sheet, text_calls(&sheet, &sheet.text), rounds, &only);
     }
 }

@@ -1,4 +1,4 @@
-//! Compares build, the tables and the pair check with the original and with the model, on random small files.
+//! Compares the public calls with the original and with the model, on random small files and texts.
 //! `compare [SEED [SECONDS]]`: stops at the first difference that is on no list, with the smallest form of its case.
 use beside::cases::{case, Case};
 use beside::lent::Lent;
@@ -12,6 +12,7 @@ use std::time::{Duration, Instant};
 /// What was seen, by name, and the smallest case of each listed difference.
 #[derive(Default)]
 struct Seen {
+    calls: u64,
     counts: BTreeMap<String, u64>,
     listed: BTreeMap<String, (u64, Case)>,
 }
@@ -19,6 +20,15 @@ struct Seen {
 impl Seen {
     fn count(&mut self, what: impl Into<String>) {
         *self.counts.entry(what.into()).or_default() += 1;
+    }
+
+    /// A call on a text, or of decoding, and its refusal.
+    fn call(&mut self, what: &str, refusal: Option<Refusal>) {
+        self.calls += 1;
+        match refusal {
+            None => self.count(what),
+            Some(refusal) => self.count(format!("{what}, refused, cause {}", refusal.cause)),
+        }
     }
 
     /// A difference that docs/DIFFERENCES.md lists.
@@ -39,6 +49,8 @@ macro_rules! same {
         }
     }};
 }
+
+mod texts;
 
 /// The buffers that build is lent: four tables and the area.
 struct Buffer([Lent; 5]);
@@ -181,10 +193,11 @@ fn compare_calls(
 fn compare_damaged(
     file: &[u8],
     buffer: &mut Buffer,
-    n: usize,
+    rows: &[Vec<u8>],
     random: &mut Random,
     seen: &mut Seen,
 ) -> Result<(), String> {
+    let n = rows.len();
     for _ in 0..4 {
         let table = random.below(5);
         let size = if table == 4 { AREA } else { n };
@@ -201,7 +214,9 @@ fn compare_damaged(
         let form = Refusal { cause: 8, place: 0 };
         let told = [tables.num_tokens().err(), tables.token_len(x).err(), tables.is_valid_token_pair(x, y).err()];
         let wanted = (!model::in_form(&tables)).then_some(form);
-        same!(told, [wanted; 3], "table {table}, entry {at} set to {value}");
+        let damage = format!("table {table}, entry {at} set to {value}");
+        same!(told, [wanted; 3], "{damage}");
+        texts::compare_free(&tables, rows, wanted.is_none(), random).map_err(|e| format!("{damage}: {e}"))?;
         seen.count(if wanted.is_some() { "damaged tables, out of form" } else { "damaged tables, in form" });
         buffer.0[table].part()[at] = kept;
     }
@@ -235,8 +250,10 @@ fn compare(case: &Case, seen: &mut Seen) -> Result<(), String> {
         }
     }
     let Some(rust) = compare_original(case, &rows, &wanted, seen)? else { return Ok(()) };
-    compare_calls(&rows, &buffer.tables(&file), &rust, &mut random, seen)?;
-    compare_damaged(&file, &mut buffer, rows.len(), &mut random, seen)
+    let tables = buffer.tables(&file);
+    compare_calls(&rows, &tables, &rust, &mut random, seen)?;
+    texts::compare_texts(&mut texts::Sides::new(&rows, tables, &rust), &mut random, seen)?;
+    compare_damaged(&file, &mut buffer, &rows, &mut random, seen)
 }
 
 /// How a case fails, with some other random choices too.
@@ -323,5 +340,5 @@ fn main() {
     for (what, (times, case)) in &seen.listed {
         println!("listed difference {what}: {times}; smallest, seed {}: {}", case.seed, case.shown());
     }
-    println!("differences: 0");
+    println!("files: {}, calls on texts and of decoding: {}, differences: 0", seed - first, seen.calls);
 }

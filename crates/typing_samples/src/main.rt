@@ -1,0 +1,197 @@
+// Typing and intervals over the phrase file E of document 01: its cases P4 to P7, and whole texts against `count`. A line on a whole text says
+// how many counts were compared and how many differed.
+mod intervals;
+mod said;
+mod texts;
+mod typing_texts;
+
+use intervals::all_pieces;
+use said::say_four;
+use said::say_tally;
+use typing_core::Side;
+use typing_texts::by_bytes;
+use typing_texts::by_pieces;
+
+// P4 and P5.
+fn say_typed(
+    file: &[u8],
+    places: &[u32],
+    lefts: &[u32],
+    rights: &[u32],
+    prefixes: &[u32],
+    area: &[u32],
+) {
+    let mut counts = [0u32; 4096];
+    typing::type_text(
+        Side::Append,
+        file,
+        places,
+        lefts,
+        rights,
+        prefixes,
+        area,
+        b"abcd",
+        &mut counts,
+    );
+    say_four(b"P4 append:", &counts);
+    typing::type_text(
+        Side::Prepend,
+        file,
+        places,
+        lefts,
+        rights,
+        prefixes,
+        area,
+        b"dcba",
+        &mut counts,
+    );
+    say_four(b"P5 prepend d, c, b, a:", &counts);
+}
+
+// A text of 4,096 letters, typed byte by byte and in pieces.
+fn type_long(
+    file: &[u8],
+    places: &[u32],
+    lefts: &[u32],
+    rights: &[u32],
+    prefixes: &[u32],
+    area: &[u32],
+) {
+    let mut drawn = [0u8; 4096];
+    let mut text = [0u8; 4096];
+    let mut mirror = [0u8; 4096];
+    texts::draw(&mut drawn, 1);
+    texts::put_piece(&mut text, &mut mirror, 0, &drawn);
+    say_tally(
+        b"append byte by byte:",
+        by_bytes(
+            Side::Append,
+            file,
+            places,
+            lefts,
+            rights,
+            prefixes,
+            area,
+            &text,
+            &mirror,
+            4096,
+        ),
+    );
+    say_tally(
+        b"prepend byte by byte:",
+        by_bytes(
+            Side::Prepend,
+            file,
+            places,
+            lefts,
+            rights,
+            prefixes,
+            area,
+            &text,
+            &mirror,
+            4096,
+        ),
+    );
+    say_tally(
+        b"append in pieces:",
+        by_pieces(
+            Side::Append,
+            file,
+            places,
+            lefts,
+            rights,
+            prefixes,
+            area,
+            &text,
+            false,
+        ),
+    );
+    say_tally(
+        b"prepend in pieces:",
+        by_pieces(
+            Side::Prepend,
+            file,
+            places,
+            lefts,
+            rights,
+            prefixes,
+            area,
+            &text,
+            false,
+        ),
+    );
+    say_tally(
+        b"append in pieces, halves taken back:",
+        by_pieces(
+            Side::Append,
+            file,
+            places,
+            lefts,
+            rights,
+            prefixes,
+            area,
+            &text,
+            true,
+        ),
+    );
+    say_tally(
+        b"prepend in pieces, halves taken back:",
+        by_pieces(
+            Side::Prepend,
+            file,
+            places,
+            lefts,
+            rights,
+            prefixes,
+            area,
+            &text,
+            true,
+        ),
+    );
+}
+
+// All pieces of two texts of 200 bytes.
+fn count_pieces(
+    file: &[u8],
+    places: &[u32],
+    lefts: &[u32],
+    rights: &[u32],
+    prefixes: &[u32],
+    area: &[u32],
+) {
+    let mut drawn = [0u8; 200];
+    texts::draw(&mut drawn, 2);
+    say_tally(
+        b"intervals of letters:",
+        all_pieces(file, places, lefts, rights, prefixes, area, &drawn),
+    );
+    let same = [b'a'; 200];
+    say_tally(
+        b"intervals of one byte repeated:",
+        all_pieces(file, places, lefts, rights, prefixes, area, &same),
+    );
+}
+
+fn main() {
+    let mut file = [0u8; 2048];
+    let mut places = [0u32; 300];
+    let mut lefts = [0u32; 300];
+    let mut rights = [0u32; 300];
+    let mut prefixes = [0u32; 300];
+    let mut area = [0u32; 16384];
+    let size = texts::put_sample_e(&mut file);
+    let phrases = texts::front(&file, size);
+    dictionary::from_dictionary(
+        phrases,
+        1,
+        &mut places,
+        &mut lefts,
+        &mut rights,
+        &mut prefixes,
+        &mut area,
+    );
+    say_typed(phrases, &places, &lefts, &rights, &prefixes, &area);
+    intervals::say_samples(phrases, &places, &lefts, &rights, &prefixes, &area);
+    type_long(phrases, &places, &lefts, &rights, &prefixes, &area);
+    count_pieces(phrases, &places, &lefts, &rights, &prefixes, &area);
+}

@@ -1,0 +1,67 @@
+// What is printed, and how many answers differ.
+use tables::Answer;
+
+// How many answers were compared, and how many of them differed.
+pub type Tally = [u64; 2];
+
+// A number of 32 bits as one of 64.
+pub fn wide(x: u32) -> u64 {
+    x as u64
+}
+
+pub fn say(text: &[u8]) {
+    io::write_all(libc::STDOUT_FILENO, text);
+}
+
+pub fn say_number(n: u64) {
+    say(b" ");
+    io::print_decimal(libc::STDOUT_FILENO, n);
+}
+
+// The first four numbers.
+pub fn say_four(name: &[u8], counts: &[u32; 4096]) {
+    say(name);
+    say_number(wide(counts[0]));
+    say_number(wide(counts[1]));
+    say_number(wide(counts[2]));
+    say_number(wide(counts[3]));
+    say(b"\n");
+}
+
+// The number that an answer holds, or the refusal and its place.
+pub fn say_answer(name: &[u8], answer: Answer) {
+    say(name);
+    let refusal = answers::answer_number(answer);
+    if refusal != 0 {
+        say(b" refused");
+        say_number(wide(refusal));
+        say(b", place");
+    }
+    say_number(answers::answer_place(answer));
+    say(b"\n");
+}
+
+pub fn say_tally(name: &[u8], tally: Tally) {
+    say(name);
+    say(b" compared");
+    say_number(tally[0]);
+    say(b", differing");
+    say_number(tally[1]);
+    say(b"\n");
+}
+
+// The number that an answer holds, or the largest number in place of a refusal.
+pub fn held(answer: Answer) -> u64 {
+    match answer {
+        Answer::Number(count) => count as u64,
+        Answer::Refused(_) => u64::MAX,
+    }
+}
+
+// Counts a number that was compared with an answer. A refusal differs from every number.
+pub fn compare(tally: &mut Tally, found: u64, wanted: Answer) {
+    tally[0] = std::num::wrapping_add_u64(tally[0], 1);
+    if answers::answer_number(wanted) != 0 || answers::answer_place(wanted) != found {
+        tally[1] = std::num::wrapping_add_u64(tally[1], 1);
+    }
+}

@@ -1,0 +1,93 @@
+/* The phrase codes library, for C. `rt staticlib exports` writes target/staticlib/libexports.a.
+ *
+ * A phrase file has 256 to 4,096 rows; per row a mark C7 51, one length byte 1 to 64, then the bytes. n is the count of rows; a code is
+ * a row's number. bpe_from_dictionary fills four tables of n numbers (or more) and a search area of 16,384; all other calls take the file
+ * and these tables as it left them. Nothing is kept between calls, nothing is allocated, and no call writes beyond what is said here.
+ *
+ * Each slice is a pointer and a length in elements. Each call returns one number:
+ *     bpe_cause(result)   0 for an answer, else the number of the cause
+ *     bpe_place(result)   the answer's number, or the place that belongs to the cause
+ * Causes and their places:
+ *      1 factor 0 (0)                              7 a table, the area, output or work buffer too short (0)
+ *      2 file over 65,536 bytes (65,536), or       8 tables out of form (0)
+ *        bad record (its offset)                   9 text over 4,096 bytes, or over 4,096 codes (0)
+ *      3 under 256 or over 4,096 rows (n)         10 code not below n (index of the first)
+ *      4 a byte value without a row (lowest)      11 interval start above end, or end above text (0)
+ *      5 same hash as an earlier row (row)        12 push or extend beyond the slice or 4,096 (length)
+ *      6 longer row without parts (row)
+ * After a refusal every buffer is as it was, but for 5 and 6 of the build. On success output beyond the answer is unchanged; a work
+ * buffer may hold anything in as many numbers as the text has bytes, and is unchanged beyond.
+ */
+#ifndef NAHYPORA_H
+#define NAHYPORA_H
+
+#include <stddef.h>
+#include <stdint.h>
+
+#ifdef __cplusplus
+extern "C" {
+#endif
+
+#define BPE_AREA 16384u      /* numbers in the search area */
+#define BPE_NONE 4294967295u /* "none" in a table, "over" of bpe_count_till_limit */
+
+static inline uint32_t bpe_cause(uint64_t result) { return (uint32_t)(result >> 32); }
+static inline uint32_t bpe_place(uint64_t result) { return (uint32_t)result; }
+
+/* The file and the tables as bpe_from_dictionary left them, each as pointer and length. */
+#define BPE_TABLES                                                                                                     \
+    const uint8_t *file, size_t file_len, const uint32_t *places, size_t places_len, const uint32_t *lefts,            \
+        size_t lefts_len, const uint32_t *rights, size_t rights_len, const uint32_t *prefixes, size_t prefixes_len,    \
+        const uint32_t *area, size_t area_len
+
+/* Fills the tables and the search area; the answer is n. The factor multiplies the rows' hashes: take 1, or another one where cause 5
+ * comes. Causes in order: 1, 2, 3, 4, 7, 5, 6. After 5 and 6 the first n numbers of each table and the first 16,384 of the area are
+ * BPE_NONE, the rest unchanged; after the others nothing is changed. */
+uint64_t bpe_from_dictionary(const uint8_t *file, size_t file_len, uint64_t factor, uint32_t *places, size_t places_len,
+                             uint32_t *lefts, size_t lefts_len, uint32_t *rights, size_t rights_len, uint32_t *prefixes,
+                             size_t prefixes_len, uint32_t *area, size_t area_len);
+
+/* Whether token1 and token2 may stand beside each other: 1 or 0. Causes: 8, 10 (place 0 or 1). */
+uint64_t bpe_is_valid_token_pair(BPE_TABLES, uint32_t token1, uint32_t token2);
+
+/* n. Cause: 8. */
+uint64_t bpe_num_tokens(BPE_TABLES);
+
+/* The number of bytes of a row. Causes: 8, 10. */
+uint64_t bpe_token_len(BPE_TABLES, uint32_t token);
+
+/* The codes of a text of at most 4,096 bytes, to the front of out; the answer is their number. out and work need one number per byte of
+ * the text. Causes: 9, 7, 8. The first three give the same codes, those of the merge procedure. */
+uint64_t bpe_encode_via_bitfield(BPE_TABLES, const uint8_t *text, size_t text_len, uint32_t *out, size_t out_len,
+                                 uint32_t *work, size_t work_len);
+uint64_t bpe_encode_via_backtracking(BPE_TABLES, const uint8_t *text, size_t text_len, uint32_t *out, size_t out_len,
+                                     uint32_t *work, size_t work_len);
+uint64_t bpe_encode_via_table(BPE_TABLES, const uint8_t *text, size_t text_len, uint32_t *out, size_t out_len,
+                              uint32_t *work, size_t work_len);
+/* The fewest codes; among those the longest first row, then the longest second, and so on. */
+uint64_t bpe_encode_minimal(BPE_TABLES, const uint8_t *text, size_t text_len, uint32_t *out, size_t out_len,
+                            uint32_t *work, size_t work_len);
+/* The longest row at each place. */
+uint64_t bpe_encode_greedy(BPE_TABLES, const uint8_t *text, size_t text_len, uint32_t *out, size_t out_len,
+                           uint32_t *work, size_t work_len);
+
+/* The number of codes of a text. work needs one number per byte. Causes: 9, 7, 8. */
+uint64_t bpe_count(BPE_TABLES, const uint8_t *text, size_t text_len, uint32_t *work, size_t work_len);
+
+/* The same, or BPE_NONE for "over": if the count passes the limit, or the running count passes limit + 10 before the text is done. */
+uint64_t bpe_count_till_limit(BPE_TABLES, const uint8_t *text, size_t text_len, uint64_t limit, uint32_t *work,
+                              size_t work_len);
+
+/* The bytes of at most 4,096 codes, joined, to the front of out; the answer is their number. Causes: 9, 8, 10, 7. */
+uint64_t bpe_decode_tokens(BPE_TABLES, const uint32_t *tokens, size_t tokens_len, uint8_t *out, size_t out_len);
+
+/* The bytes of one row. Causes: 8, 10, 7. */
+uint64_t bpe_token_bytes(BPE_TABLES, uint32_t token, uint8_t *out, size_t out_len);
+
+#undef BPE_TABLES
+
+#ifdef __cplusplus
+}
+#endif
+
+#endif

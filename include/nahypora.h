@@ -4,12 +4,13 @@
  * a row's number. bpe_from_dictionary fills four tables of n numbers (or more) and a search area of 16,384; all other calls take the file
  * and these tables as it left them. Nothing is kept between calls, nothing is allocated, and no call writes beyond what is said here.
  *
- * Each slice is a pointer and a length in elements. Each call returns one number:
+ * Each slice is a pointer, never null, and a length in elements; a buffer that a call may write overlaps no other argument. Each call
+ * returns one number:
  *     bpe_cause(result)   0 for an answer, else the number of the cause
  *     bpe_place(result)   the answer's number, or the place that belongs to the cause
  * Causes and their places:
  *      1 factor 0 (0)                              7 a table, the area, output or work buffer too short (0)
- *      2 file over 65,536 bytes (65,536), or       8 tables out of form (0)
+ *      2 file over 65,536 bytes (65,536), or       8 tables, head or records out of form (0)
  *        bad record (its offset)                   9 text over 4,096 bytes, or over 4,096 codes (0)
  *      3 under 256 or over 4,096 rows (n)         10 code not below n (index of the first)
  *      4 a byte value without a row (lowest)      11 interval start above end, or end above text (0)
@@ -83,6 +84,55 @@ uint64_t bpe_decode_tokens(BPE_TABLES, const uint32_t *tokens, size_t tokens_len
 
 /* The bytes of one row. Causes: 8, 10, 7. */
 uint64_t bpe_token_bytes(BPE_TABLES, uint32_t token, uint8_t *out, size_t out_len);
+
+/* Typing. A head has the number of bytes typed, and a record for each of them, in the order of typing, has the byte, the last code of the
+ * bytes typed up to it and the number of their codes; in prepending, where each byte is put in front of those before, the first code. Start
+ * with a length of 0 over records of any content, and let nobody else write either. A head is out of form if its length exceeds the slice
+ * or 4,096. */
+typedef struct {
+    size_t len;
+} bpe_head;
+
+typedef struct {
+    uint8_t byte;
+    uint32_t code;
+    uint32_t count;
+} bpe_state;
+
+/* Types one byte; the answer is the new length. Only the record added and the head are written. Causes: 8 (tables, head or a record below
+ * the length), 12 (place: the current length) if there is no record left or 4,096 bytes are typed. */
+uint64_t bpe_append_push(BPE_TABLES, uint8_t byte, bpe_head *head, bpe_state *states, size_t states_len);
+uint64_t bpe_prepend_push(BPE_TABLES, uint8_t byte, bpe_head *head, bpe_state *states, size_t states_len);
+
+/* Types bytes, the first one first, all or none; the answer is the new length. Only the records added and the head are written. Causes: 9
+ * (more than 4,096 bytes), 8, 12. */
+uint64_t bpe_append_extend(BPE_TABLES, const uint8_t *bytes, size_t bytes_len, bpe_head *head, bpe_state *states,
+                           size_t states_len);
+uint64_t bpe_prepend_extend(BPE_TABLES, const uint8_t *bytes, size_t bytes_len, bpe_head *head, bpe_state *states,
+                            size_t states_len);
+
+/* Keeps the first so many bytes typed, or all if there are fewer; the answer is the new length. Only the head is written. Cause: 8, of the
+ * head alone. */
+uint64_t bpe_append_truncate(size_t keep, bpe_head *head, const bpe_state *states, size_t states_len);
+uint64_t bpe_prepend_truncate(size_t keep, bpe_head *head, const bpe_state *states, size_t states_len);
+
+/* The number of codes of the bytes typed. Nothing is written. Cause: 8. */
+uint64_t bpe_append_token_count(BPE_TABLES, const bpe_head *head, const bpe_state *states, size_t states_len);
+uint64_t bpe_prepend_token_count(BPE_TABLES, const bpe_head *head, const bpe_state *states, size_t states_len);
+
+/* Prepares the counts of pieces of a text of at most 4,096 bytes. For each of its prefixes: the last code (but for the empty prefix), the
+ * tree number, one past the last tree number below it, and the number of codes. last_codes and work need one number per byte, numbers, ends
+ * and depths one more; beyond that nothing is written. The answer is the text's length. Causes: 9, 7, 8. */
+uint64_t bpe_interval_prepare(BPE_TABLES, const uint8_t *text, size_t text_len, uint32_t *last_codes,
+                              size_t last_codes_len, uint32_t *numbers, size_t numbers_len, uint32_t *ends,
+                              size_t ends_len, uint32_t *depths, size_t depths_len, uint32_t *work, size_t work_len);
+
+/* The number of codes of the piece from start to end, the byte at the end not included. The four tables are as preparation left them for
+ * this text; work needs one number per byte of the whole text. Causes: 9, 7, 8 (the four tables too), 11. */
+uint64_t bpe_interval_count(BPE_TABLES, const uint8_t *text, size_t text_len, const uint32_t *last_codes,
+                            size_t last_codes_len, const uint32_t *numbers, size_t numbers_len, const uint32_t *ends,
+                            size_t ends_len, const uint32_t *depths, size_t depths_len, size_t start, size_t end,
+                            uint32_t *work, size_t work_len);
 
 #undef BPE_TABLES
 

@@ -211,6 +211,43 @@ def decode(d, codes):
     return b"".join(d.rows[c] for c in codes)
 
 
+# ---- typing and intervals
+
+def in_order(side, typed):
+    """The text of bytes in the order of typing."""
+    return typed if side == "append" else typed[::-1]
+
+
+def records(d, side, typed):
+    """The record of each byte typed: byte, last code (prepending: first code) and number of codes of the bytes up to it."""
+    codes = [merge(d, in_order(side, typed[:i + 1])) for i in range(len(typed))]
+    return [(b, c[-1 if side == "append" else 0], len(c)) for b, c in zip(typed, codes)]
+
+
+class Book:
+    """Document 01's typing book over a slice of so many records: each call gives (cause, place or answer)."""
+    def __init__(self, d, side, size):
+        self.d, self.side, self.size, self.typed = d, side, size, b""
+
+    def extend(self, more):
+        if len(more) > 4096:
+            return 9, 0
+        if len(self.typed) + len(more) > min(self.size, 4096):
+            return 12, len(self.typed)
+        self.typed += more
+        return 0, len(self.typed)
+
+    def push(self, byte):
+        return self.extend(bytes([byte]))
+
+    def truncate(self, keep):
+        self.typed = self.typed[:keep]
+        return 0, len(self.typed)
+
+    def token_count(self):
+        return 0, len(merge(self.d, in_order(self.side, self.typed)))
+
+
 def interval_tables(d, text):
     """Last code, tree number, tree end and depth of each prefix."""
     m = len(text)
@@ -229,6 +266,13 @@ def interval_tables(d, text):
     return [c[-1] for c in codes[1:]], number, end, [len(c) for c in codes]
 
 
+def interval_count(d, text, start, end):
+    """(cause, count) of a piece, the byte at the end not included."""
+    if start > end or end > len(text):
+        return 11, 0
+    return 0, len(merge(d, text[start:end]))
+
+
 # ---- document 01's sample files
 
 B = [bytes([b]) for b in range(256)]
@@ -242,9 +286,10 @@ def check_samples():
     assert merge(e, b"abcd") == [97, 256, 100]                      # P1
     assert shortest(e, b"abcd") == [257, 258]                       # P2
     assert greedy(e, b"abcd") == [257, 258]                         # P3
-    assert [len(merge(e, b"abcd"[:i])) for i in range(1, 5)] == [1, 1, 2, 3]        # P4
-    assert [len(merge(e, b"abcd"[-i:])) for i in range(1, 5)] == [1, 1, 2, 3]       # P5
-    assert len(merge(e, b"bcd")) == 2 and merge(e, b"") == []       # P6, P7
+    assert [count for _, _, count in records(e, "append", b"abcd")] == [1, 1, 2, 3]     # P4
+    assert [count for _, _, count in records(e, "prepend", b"dcba")] == [1, 1, 2, 3]    # P5
+    assert interval_count(e, b"abcd", 1, 4) == (0, 2)               # P6
+    assert interval_count(e, b"abcd", 2, 2) == (0, 0)               # P7
     assert merge(f, b"aaa") == [256, 97]                            # P8
     assert not f.passes(97, 256) and f.passes(256, 97)              # P9, P10
     assert build(write_file(G), 1)[0] == (6, 0)

@@ -18,13 +18,16 @@ const FILES: [&str; 6] = [
 fn probes(name: &str) -> &'static str {
     match name {
         "byte_pair_encoding" => include_str!("src/probes.rs"),
+        "appendable_encoder" => include_str!("src/probes_append.rs"),
+        "prependable_encoder" => include_str!("src/probes_prepend.rs"),
+        "interval_encoding" => include_str!("src/probes_interval.rs"),
         _ => "",
     }
 }
 
 fn main() {
     println!("cargo:rerun-if-env-changed=BPE_ORIGINAL");
-    println!("cargo:rerun-if-changed=src/probes.rs");
+    println!("cargo:rerun-if-changed=src");
     let given = env::var("BPE_ORIGINAL")
         .unwrap_or_else(|_| panic!("set BPE_ORIGINAL to the folder with the original's six files"));
     let given = fs::canonicalize(&given).unwrap_or_else(|e| panic!("{given}: {e}"));

@@ -13,5 +13,5 @@ for fn in "$@"; do
   rm -rf $at; mkdir -p $at/$crate
   python3 $here/twin_src.py crates/$crate/src $at/$crate/src $fn
   rt check $at/$crate --generated $at/gen -L dependency=$PWD/target/rlib $externs > $at/log 2>&1 || true
-  python3 $here/twin.py $at/gen $crate crates/$crate/proofs $fn
+  python3 $here/twin.py $at/gen $crate $crate crates/$crate/proofs $fn
 done

@@ -1,7 +1,8 @@
 #!/usr/bin/env python3
 """Carries the borrow checker's derivation of a covered twin over to a function on references to structs.
 
-twin.py GEN CRATE OUT FN.. : GEN is what `rt check twin/CRATE --generated GEN` wrote, OUT is crates/CRATE/proofs.
+twin.py GEN CRATE OWNER OUT FN.. : GEN is what `rt check twin/CRATE --generated GEN` wrote, OUT is crates/CRATE/proofs, OWNER is the crate that
+has the structs, CRATE itself or another.
 In the twin each struct is an array of the same size and alignment (structs.py).
 For each FN it writes OUT/FN/Proof/{Lts,Tie}.antt and OUT/Carried/FN/{Kinds,Reads}.antt, which callers cite too.
 """
@@ -32,7 +33,7 @@ def logical(text):
     r = re.sub(r'\( +', '(', r); r = re.sub(r',? +\)', ')', r)
     return re.sub(r'\n{2,}', '\n\n', r)
 
-def carry(text, crate, fn, walked):
+def carry(text, crate, owner, fn, walked, lent):
     for S, w, n in TYPES:
         K = S + 'Kit'
         f = rf"\(Referent\.rtF \(Referent\.fInt Syntax\.{w}\)\)"
@@ -69,7 +70,11 @@ def carry(text, crate, fn, walked):
     for g in walked:
         flat = g.replace('.', '_')
         text = re.sub(rf'use {P}\.{g}\.(Kinds|Reads)\b', rf'use {P}.Carried.{flat}.\1', text)
-    kits = ''.join(f'use {P}.{S}Kit\n' for S, _, _ in TYPES if S + 'Kit.' in text)
+    # another crate's modules have its name alone
+    Q = P if owner == crate else f'Rattle.{owner}.proofs'
+    for g in lent:
+        text = re.sub(rf'use {Q}\.{g}\.(Kinds|Reads)\b', rf'use {Q}.Carried.{g.replace(".", "_")}.\1', text)
+    kits = ''.join(f'use {Q}.{S}Kit\n' for S, _, _ in TYPES if S + 'Kit.' in text)
     i = text.index('use ')
     return text[:i] + kits + text[i:]
 
@@ -79,7 +84,7 @@ def walked(d):
     for f in sorted(os.listdir(d)):
         src = open(f'{d}/{f}').read()
         mod = '' if f in ('lib.rt', 'main.rt') else f[:-3] + '.'
-        sigs = re.findall(r'^(?:pub )?fn (\w+)(?:<[^>]*>)?(\([^)]*\))', src, flags=re.M)
+        sigs = re.findall(r'^(?:pub )?(?:extern "C" )?fn (\w+)(?:<[^>]*>)?(\([^)]*\))', src, flags=re.M)
         names += [mod + n for n, ps in sigs if any(re.search(rf"&('\w+ )?(mut )?\[?{S}\b", ps) for S, _, _ in TYPES)]
     return names
 
@@ -115,7 +120,9 @@ def nodes(out):
     for x in fns: open(f'{out}/Carried/{x}.antt', 'w').write('pub mod Kinds\npub mod Reads\n')
 
 def main():
-    gen, crate, out, fns = sys.argv[1], sys.argv[2], sys.argv[3], sys.argv[4:]
+    gen, crate, owner, out, fns = sys.argv[1], sys.argv[2], sys.argv[3], sys.argv[4], sys.argv[5:]
+    mine = walked(f'{out}/../src')
+    lent = [] if owner == crate else walked(f'{out}/../../{owner}/src')
     for fn in fns:
         d = f'{out}/{fn}/Proof'; os.makedirs(d, exist_ok=True)
         # a function that calls itself has its derivation in the folder of its cycle
@@ -126,13 +133,13 @@ def main():
             src = open(f'{gen}/Rattle.{crate}.proofs/proofs/{"" if own else "+"}{fn}/{m}.antt').read()
             src = logical(src.replace("-- the `use` lines below are this print's own: the module states none of them\n", ''))
             head = f"-- Made by tools/carry: the borrow checker's `{m}` of the twin of `{fn}`, carried over to the structs. Assumes nothing.\n"
-            if m in ('Kinds', 'Reads') and fn.replace('/', '.') not in walked(f'{out}/../src'): continue  # the driver makes them
+            if m in ('Kinds', 'Reads') and fn.replace('/', '.') not in mine: continue  # the driver makes them
             at = f'{out}/Carried/{fn.replace("/", "_")}' if m in ('Kinds', 'Reads') else d
             os.makedirs(at, exist_ok=True)
-            open(f'{at}/{m}.antt', 'w').write(head + share(carry(src, crate, fn, walked(f'{out}/../src'))))
+            open(f'{at}/{m}.antt', 'w').write(head + share(carry(src, crate, owner, fn, mine, lent)))
             # an array of the twin that no pattern knew
             made = open(f'{at}/{m}.antt').read()
             left = [x for S, w, n in TYPES for x in re.findall(rf"\S*[aA]rr\S* (?:\(Syntax\.tyInt Syntax\.{w}\)|\(Referent\.rtF \(Referent\.fInt Syntax\.{w}\)\)) {n}\b", made)]
             if left: print(fn, m, 'left:', sorted(set(left))[:10])
 main()
-nodes(sys.argv[3])
+nodes(sys.argv[4])

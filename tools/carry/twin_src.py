@@ -1,6 +1,6 @@
 #!/usr/bin/env python3
-"""twin_src.py SRC OUT FN : the twin of a crate's src/ folder, for the function FN (as append/push in a module). Each struct of structs.py becomes
-an array type, a contract keeps its clauses' number and names but says nothing, and every function but FN keeps its signature alone
+"""twin_src.py SRC OUT FN.. : the twin of a crate's src/ folder, for the functions FN (as append/push in a module). Each struct of structs.py becomes
+an array type, a contract keeps its clauses' number and names but says nothing, and every function but these keeps its signature alone
 (its body is some value: the twin is never proved, only its derivations are read)."""
 import os, re, sys
 from structs import STRUCTS
@@ -31,14 +31,14 @@ def zero(t):
     return f'{t} {{ ' + ', '.join(f'{n}: {zero(x)}' for n, x in fs) + ' }'
 
 def twin(text, keep):
-    """one file: the function `keep` keeps its body"""
+    """one file: the functions of `keep` keep their bodies"""
     global src
     src = text
     src = re.sub(r'^ghost use .*?;\n', '', src, flags=re.M | re.S)
     for S, t in TYPES.items():
-        src = re.sub(rf'^pub struct {S} \{{.*?^\}}\n', f'pub type {S} = {t};\n', src, flags=re.M | re.S)
+        src = re.sub(rf'^(?:#\[repr\(C\)\]\n)?pub struct {S} \{{.*?^\}}\n', f'pub type {S} = {t};\n', src, flags=re.M | re.S)
     out, i = [], 0
-    for m in re.finditer(r'^(pub )?fn (\w+)', src, flags=re.M):
+    for m in re.finditer(r'^(pub )?(?:extern "C" )?fn (\w+)', src, flags=re.M):
         if m.start() < i: continue
         out.append(src[i:m.start()])
         j = src.index('(', m.end()); k = j; d = 0
@@ -60,21 +60,22 @@ def twin(text, keep):
         r = ' -> ' + rm.group(1).strip() if rm else ''
         b = src.index('{', p); e = close(src, b)
         body = src[b:e]
-        if m.group(2) != keep:
+        if m.group(2) not in keep:
             body = '{\n    ' + (zero(r[4:]) if r else '') + '\n}'
         out.append(sig + r + '\n' + ''.join(f'    {w}{l} {{ {"λ r. " if w == "ensures" else ""}⌜ Unit ⌝ }}\n' for w, l in clauses) + body)
         i = e
     out.append(src[i:])
     return ''.join(out)
 
-d, out_dir, path = sys.argv[1:4]
+d, out_dir, paths = sys.argv[1], sys.argv[2], sys.argv[3:]
 files = [f for f in sorted(os.listdir(d)) if f.endswith('.rt')]
 everything = '\n'.join(open(f'{d}/{f}').read() for f in files)
 # the types of other crates
 for crate in sorted(set(re.findall(r'^use (\w+)::', everything, flags=re.M))):
     others = f'{d}/../../{crate}/src'
     if os.path.isdir(others): everything += '\n'.join(open(f'{others}/{f}').read() for f in sorted(os.listdir(others)))
-home = path.split('/')[0] + '.rt' if '/' in path else ('main.rt' if 'main.rt' in files else 'lib.rt')
+root = 'main.rt' if 'main.rt' in files else 'lib.rt'
+homes = [(p.split('/')[0] + '.rt' if '/' in p else root, p.split('/')[-1]) for p in paths]
 os.makedirs(out_dir, exist_ok=True)
 for f in files:
-    open(f'{out_dir}/{f}', 'w').write(twin(open(f'{d}/{f}').read(), path.split('/')[-1] if f == home else None))
+    open(f'{out_dir}/{f}', 'w').write(twin(open(f'{d}/{f}').read(), [n for home, n in homes if home == f]))

@@ -99,4 +99,4 @@ module _ (file placeTable lefts rights prefixes area : List ℕ) (n : ℕ) (B : 
 
   -- the pair check over the tables is the dictionary's
   pub pair-is : (u v : ℕ) (r : Bool) → PairIs file placeTable lefts rights area n n u v r → r ≡ passes (dictionaryOf file) (dictionaryOf file .count) u v
-  pair-is u v r p = p .passes-is (dictionaryOf file) tells distinct-rows (B .finds) ∙ ap (λ (q : ℕ). passes (dictionaryOf file) q u v) (sym count-is)
+  pair-is u v r p = p .passes-is (dictionaryOf file) tells distinct-rows (B .finds) (B .pairs-marked) ∙ ap (λ (q : ℕ). passes (dictionaryOf file) q u v) (sym count-is)

@@ -9,12 +9,13 @@ use Rattle.phrase_file.specs.Checks.{checkOf}
 use Rattle.theory.specs.Dictionary.{Dictionary}
 use Rattle.theory.specs.Parts.{Accepted, dictionary, prefix}
 use Rattle.search_area.specs.Area.{Finds}
+use Rattle.token_pair.specs.Pair.{PairsMarked}
 
 -- the dictionary of a file's rows
 unfoldable pub dictionaryOf : List ℕ → Dictionary
 dictionaryOf file = dictionary (rows file)
 
--- the file is accepted, the first n entries of each table are the definitions', and the search area finds every row
+-- the file is accepted, the first n entries of each table are the definitions', and the search area finds every row and has every pair marked
 pub record Built (file placeTable lefts rights prefixes area : List ℕ) (n : ℕ) : Type 0 where
   pub passed : checkOf file ≡ Rows n
   pub accepted : Accepted (rows file)
@@ -27,3 +28,4 @@ pub record Built (file placeTable lefts rights prefixes area : List ℕ) (n : �
   pub prefixes-are : (c : ℕ) → c < n → getD prefixes c 0 ≡ prefix (dictionaryOf file) c
   pub area-room : 16384 ≤ length area
   pub finds : Finds file placeTable n area
+  pub pairs-marked : PairsMarked lefts rights area n

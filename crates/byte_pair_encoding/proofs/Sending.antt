@@ -127,11 +127,10 @@ module _ (file placeTable lefts rights prefixes area text out work : List ℕ) (
       })
       (s .built prefixes)
 
-  pub minimal-ready : MinimalReady file placeTable prefixes area n text out work
+  pub minimal-ready : MinimalReady file placeTable area n text out work
   minimal-ready = record {
     ready = record {
       places-ready = p .tables .places-ready;
-      prefixes-ready = p .tables .prefixes-ready;
       area-room = p .tables .area-room;
       few = p .short;
       room = p .work-room;
@@ -139,7 +138,7 @@ module _ (file placeTable lefts rights prefixes area text out work : List ℕ) (
     out-room = p .out-room;
   }
 
-  pub minimal-sent : (out' work' : List ℕ) (count : ℕ) → MinimalIs file placeTable prefixes area n text out out' work work' count
+  pub minimal-sent : (out' work' : List ℕ) (count : ℕ) → MinimalIs file placeTable area n text out out' work work' count
       → Sends shortest file placeTable lefts rights prefixes area text out work out' work' (Number count)
   minimal-sent out' work' count s =
       sent shortest file placeTable lefts rights prefixes area text out work n count out' work' p
@@ -151,7 +150,7 @@ module _ (file placeTable lefts rights prefixes area text out work : List ℕ) (
         work-length = s .work-size;
         work-beyond = s .work-beyond;
       })
-      (λ B. let r = s .built lefts rights B in (r .count, r .codes))
+      (λ B. let r = s .built lefts rights prefixes B in (r .count, r .codes))
 
   pub greedy-ready : GreedyReady file placeTable area n text out
   greedy-ready = record { places-ready = p .tables .places-ready; area-room = p .tables .area-room; few = p .short; out-room = p .out-room }

@@ -200,7 +200,7 @@ pub fn encode_minimal(
 {
     match checked(file, places, lefts, rights, prefixes, area, text, out, work) {
         Check::Rows(n) => {
-            let fewest = encode_minimal_core(file, places, prefixes, area, n, text, out, work);
+            let fewest = encode_minimal_core(file, places, area, n, text, out, work);
             Answer::Number(fewest)
         }
         Check::Refused(cause) => Answer::Refused(cause),

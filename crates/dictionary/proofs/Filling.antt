@@ -1,9 +1,10 @@
 -- The buffers are filled step by step. Assumes nothing.
-use mathlib.Core.Path.{_≡_, refl, _∙_}
+use mathlib.Core.Path.{_≡_, refl, sym, ap, _∙_}
 use mathlib.Core.List.{List, _++_}
 use Prim.Native.Nat.{ℕ, _≤_, _<_}
 use native.Mathlib.Omega.{arith}
 use lib.ListN.{length, take, drop}
+use lib.Seq.{drop-drop}
 use Rattle.causes.specs.declared.Cause.the-variants.{SameHash, NoParts}
 use Rattle.causes.specs.declared.BuildAnswer.{BuildAnswer}
 use Rattle.causes.specs.declared.BuildAnswer.the-variants.{Rows, Refused}
@@ -15,6 +16,8 @@ use Rattle.clashes.specs.Clashes.{ClashFound}
 use Rattle.search_fill.specs.Filled.{Filled}
 use Rattle.built.specs.Built.{Built}
 use Rattle.parts.specs.Parts.{PartsFit, PartsFilled}
+use Rattle.parts.specs.Marking.{AreaKept}
+use Rattle.parts.proofs.Marking.{kept-all}
 use Rattle.dictionary.specs.Build.{Buffers, lent, sameHash, rowsAnswer, beyond}
 use Rattle.dictionary.specs.Steps.{Buildable, RowsFit, Searched, RowsFilled, TablesFilled}
 use Rattle.dictionary.proofs.Sizes.{Large, large, not-short}
@@ -62,7 +65,7 @@ module _ (file placeTable prefixes area : List ℕ) (factor n : ℕ) (R : RowsFi
       pub search-fills : (prefixes' area' : List ℕ) → Filled file placeTable' n prefixes area₁ prefixes' area' → RowsFilled file factor n placeTable prefixes area placeTable' prefixes' area' clash
       search-fills prefixes' area' F =
           filled prefixes' area' (λ l. searched file placeTable' prefixes area₁ prefixes' area' factor n (R .passed) written (omega (arith, same)) (R .prefixes-room) area-room F)
-          (F .prefixes-filled .prefixes-length) (F .area-filled .area-length) (F .prefixes-filled .prefixes-beyond) (F .area-filled .area-beyond)
+          (F .prefixes-filled .prefixes-length) (F .area-filled .area-length) (F .prefixes-filled .prefixes-beyond) (sym (drop-drop 1024 15360 area') ∙ ap (drop 1024) (F .area-filled .area-beyond) ∙ drop-drop 1024 15360 area₁)
 
 module _ (file placeTable lefts rights prefixes area : List ℕ) (factor n : ℕ) (A : Buildable file factor (lent placeTable lefts rights prefixes area) n) where
   abbrev b : Buffers
@@ -79,25 +82,25 @@ module _ (file placeTable lefts rights prefixes area : List ℕ) (factor n : ℕ
 
   -- the rows were filled
   module _ (placeTable' prefixes' area' : List ℕ) (clash : ℕ) (R : RowsFilled file factor n placeTable prefixes area placeTable' prefixes' area' clash) where
-    filled-tables : (lefts' rights' : List ℕ) (r : BuildAnswer)
-        → length lefts' ≡ length lefts → length rights' ≡ length rights → drop n lefts' ≡ drop n lefts → drop n rights' ≡ drop n rights
-        → r ≡ rowsAnswer file factor b n → ((m : ℕ) → r ≡ Rows m → Built file placeTable' lefts' rights' prefixes' area' m)
-        → TablesFilled file factor n b (lent placeTable' lefts' rights' prefixes' area') r
-    filled-tables lefts' rights' r ll rl lb rb a t = record {
+    filled-tables : (lefts' rights' area₂ : List ℕ) (r : BuildAnswer)
+        → length lefts' ≡ length lefts → length rights' ≡ length rights → drop n lefts' ≡ drop n lefts → drop n rights' ≡ drop n rights → AreaKept area' area₂
+        → r ≡ rowsAnswer file factor b n → ((m : ℕ) → r ≡ Rows m → Built file placeTable' lefts' rights' prefixes' area₂ m)
+        → TablesFilled file factor n b (lent placeTable' lefts' rights' prefixes' area₂) r
+    filled-tables lefts' rights' area₂ r ll rl lb rb k a t = record {
       answer = a;
       built = t;
-      room = not-short (lent placeTable' lefts' rights' prefixes' area') n (record {
+      room = not-short (lent placeTable' lefts' rights' prefixes' area₂) n (record {
         places-room = omega (arith, enough .places-room, R .places-length);
         lefts-room = omega (arith, enough .lefts-room);
         rights-room = omega (arith, enough .rights-room);
         prefixes-room = omega (arith, enough .prefixes-room, R .prefixes-length);
-        area-room = omega (arith, enough .area-room, R .area-length);
+        area-room = omega (arith, enough .area-room, R .area-length, k .area-length);
       });
-      beyond-kept = rw (R .places-beyond, lb, rb, R .prefixes-beyond, R .area-beyond);
+      beyond-kept = rw (R .places-beyond, lb, rb, R .prefixes-beyond, k .beyond ∙ R .area-beyond);
     }
 
     pub hash-filled : clash < n → TablesFilled file factor n b (lent placeTable' lefts rights prefixes' area') (Refused (SameHash clash))
-    hash-filled h = filled-tables lefts rights (Refused (SameHash clash)) refl refl refl refl (answer-hash file factor b n A clash (R .answer) h) (λ m e. absurd (refused-rows (SameHash clash) m e))
+    hash-filled h = filled-tables lefts rights area' (Refused (SameHash clash)) refl refl refl refl (kept-all area') (answer-hash file factor b n A clash (R .answer) h) (λ m e. absurd (refused-rows (SameHash clash) m e))
 
     module _ (d : n ≤ clash) where
       S : Searched file placeTable' prefixes' area' n
@@ -107,14 +110,14 @@ module _ (file placeTable lefts rights prefixes area : List ℕ) (factor n : ℕ
       parts-fit = record { rows-found = S .rows-found; prefixes-found = S .prefixes-found; left-room = enough .lefts-room; right-room = enough .rights-room }
 
       -- the parts were filled
-      module _ (lefts' rights' : List ℕ) (without : ℕ) (P : PartsFilled file lefts rights lefts' rights' n without) where
-        pub parts-filled : without < n → TablesFilled file factor n b (lent placeTable' lefts' rights' prefixes' area') (Refused (NoParts without))
+      module _ (lefts' rights' area₂ : List ℕ) (without : ℕ) (P : PartsFilled file lefts rights area' lefts' rights' area₂ n without) where
+        pub parts-filled : without < n → TablesFilled file factor n b (lent placeTable' lefts' rights' prefixes' area₂) (Refused (NoParts without))
         parts-filled h =
-            filled-tables lefts' rights' (Refused (NoParts without)) (P .lefts-length) (P .rights-length) (P .lefts-beyond) (P .rights-beyond)
+            filled-tables lefts' rights' area₂ (Refused (NoParts without)) (P .lefts-length) (P .rights-length) (P .lefts-beyond) (P .rights-beyond) (P .area-kept)
             (answer-parts file factor b n A clash (R .answer) d without (P .answer) h) (λ m e. absurd (refused-rows (NoParts without) m e))
 
-        pub rows-filled : n ≤ without → TablesFilled file factor n b (lent placeTable' lefts' rights' prefixes' area') (Rows n)
+        pub rows-filled : n ≤ without → TablesFilled file factor n b (lent placeTable' lefts' rights' prefixes' area₂) (Rows n)
         rows-filled h =
-            filled-tables lefts' rights' (Rows n) (P .lefts-length) (P .rights-length) (P .lefts-beyond) (P .rights-beyond)
+            filled-tables lefts' rights' area₂ (Rows n) (P .lefts-length) (P .rights-length) (P .lefts-beyond) (P .rights-beyond) (P .area-kept)
             (answer-rows file factor b n A clash (R .answer) d without (P .answer) h)
-            (λ m e. rw (← same-rows n m e) (is-built file placeTable' prefixes' area' lefts rights lefts' rights' n without (A .passed) S P h))
+            (λ m e. rw (← same-rows n m e) (is-built file placeTable' prefixes' area' lefts rights lefts' rights' area₂ n without (A .passed) S P h))

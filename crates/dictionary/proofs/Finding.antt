@@ -19,6 +19,7 @@ use Rattle.theory.proofs.RowsAt.{Different}
 use Rattle.search_fill.specs.Filled.{Filled}
 use Rattle.parts.specs.Parts.{isSome, RowsFound, PartsFilled}
 use Rattle.parts.proofs.Prefixes.{different, prefix-is}
+use Rattle.parts.proofs.Marking.{still-found}
 use Rattle.built.specs.Built.{dictionaryOf, Built}
 use Rattle.dictionary.specs.Build.{sameHash}
 use Rattle.dictionary.specs.Steps.{Searched}
@@ -54,8 +55,8 @@ module _ (file table prefixes area prefixes' area' : List ℕ) (factor n : ℕ)
   }
 
 -- all rows have parts
-module _ (file table prefixes area lefts rights lefts' rights' : List ℕ) (n without : ℕ)
-    (passed : checkOf file ≡ Rows n) (S : Searched file table prefixes area n) (P : PartsFilled file lefts rights lefts' rights' n without) (all : n ≤ without) where
+module _ (file table prefixes area lefts rights lefts' rights' area' : List ℕ) (n without : ℕ)
+    (passed : checkOf file ≡ Rows n) (S : Searched file table prefixes area n) (P : PartsFilled file lefts rights area lefts' rights' area' n without) (all : n ≤ without) where
   count : n ≡ length (rows file)
   count = S .rows-found .places-ready .count
 
@@ -73,7 +74,11 @@ module _ (file table prefixes area lefts rights lefts' rights' : List ℕ) (n wi
     parts = λ w h e. true-false (sym (ap isSome (sym e ∙ parts-are w (let k = count in omega arith))));
   }
 
-  pub is-built : Built file table lefts' rights' prefixes area n
+  -- the marks of pairs leave the rows found
+  still : RowsFound file table area' n
+  still = still-found file table area area' n (S .rows-found) (P .area-kept)
+
+  pub is-built : Built file table lefts' rights' prefixes area' n
   unfolding dictionaryOf dictionary
   is-built = record {
     passed = passed;
@@ -86,6 +91,7 @@ module _ (file table prefixes area lefts rights lefts' rights' : List ℕ) (n wi
     prefixes-room = S .prefixes-found .room;
     prefixes-are = λ c h.
         prefix-is file table n (S .rows-found .places-ready) (S .rows-found .distinct) (partsBelow (rows file) (length (rows file))) c (getD prefixes c 0) h (S .prefixes-found .are c h);
-    area-room = S .rows-found .area-room;
-    finds = S .rows-found .finds;
+    area-room = still .area-room;
+    finds = still .finds;
+    pairs-marked = λ c h. P .known .pairs-marked c (omega arith);
   }

@@ -18,6 +18,10 @@ ghost use Rattle.byte_pair_encoding.specs.Answers.{limitAnswerOf};
 ghost use Rattle.byte_pair_encoding.specs.Sending.{Sends};
 ghost use Rattle.byte_pair_encoding.specs.Counting.{Counts, CountsTillLimit};
 ghost use Rattle.exports.specs.Packed.{packed, packedOf, pairAnswerOf, Packs};
+
+mod intervals;
+mod typing_calls;
+
 use byte_pair_encoding::LimitAnswer;
 use causes::BuildAnswer;
 use pair_check::PairAnswer;

@@ -10,13 +10,13 @@ use Rattle.forest.specs.Words.{Mem, In, Indexed}
 use Rattle.forest.specs.Growth.{cleared}
 use Rattle.forest.proofs.Walking.{walk-out}
 
-pub length-cleared : (half : List ℕ) → 4096 ≤ length half → length (cleared half) ≡ length half
+pub length-cleared : (half : List ℕ) → 3584 ≤ length half → length (cleared half) ≡ length half
 unfolding cleared
-length-cleared half h = length-append (replicate 4096 none) (drop 4096 half) ∙ omega (arith, length-replicate 4096 none, length-drop 4096 half)
+length-cleared half h = length-append (replicate 3584 none) (drop 3584 half) ∙ omega (arith, length-replicate 3584 none, length-drop 3584 half)
 
-head-none : (half : List ℕ) (h : ℕ) → h < 4096 → getD (cleared half) h 0 ≡ none
+head-none : (half : List ℕ) (h : ℕ) → h < 3584 → getD (cleared half) h 0 ≡ none
 unfolding cleared
-head-none half h l = List·getD-append (replicate 4096 none) (drop 4096 half) 0 h (omega (arith, length-replicate 4096 none)) ∙ getD-replicate 4096 h none 0 l
+head-none half h l = List·getD-append (replicate 3584 none) (drop 3584 half) 0 h (omega (arith, length-replicate 3584 none)) ∙ getD-replicate 3584 h none 0 l
 
 pub cleared-none : (R : ℕ → List ℕ) (n : ℕ) (half : List ℕ) (S : ℕ → Bool) → R none ≡ [] → n ≤ 4096 → ((d : ℕ) → In S d → ⊥) → Indexed R n (cleared half) S
 cleared-none R n half S root N void = record {
@@ -30,5 +30,6 @@ cleared-none R n half S root N void = record {
   below = λ d s. absurd (void d s);
   bytes = λ d s. absurd (void d s);
   listed = λ d s. absurd (void d s);
-  only = λ h w l m. absurd (let z : Mem w [] = rw (head-none half h l, walk-out n (cleared half) n none (omega arith)) at m in z);
+  marks = λ d s. absurd (void d s);
+  only = λ h w l m. absurd (let z : Mem w [] = rw (head-none half h (omega arith), walk-out n (cleared half) n none (omega arith)) at m in z);
 }

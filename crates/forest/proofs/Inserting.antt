@@ -13,13 +13,15 @@ use Rattle.placed_rows.specs.Rows.{none}
 use Rattle.placed_rows.specs.Texts.{Begins}
 use Rattle.placed_rows.proofs.Beginning.{true-false, begins-length, same-length}
 use Rattle.placed_rows.specs.Longest.{Known, Longest, Prefix}
-use Rattle.forest.specs.Words.{Forest, word, row-of, bucketOf, walk, Mem, In, count, byteOf, home, wordOf, Entry, Indexed}
+use Rattle.forest.specs.Words.{Forest, word, row-of, bucketOf, walk, Mem, In, count, byteOf, home, wordOf, Entry, Indexed, childKey, marksFrom}
 use Rattle.forest.specs.Lookups.{Descent}
 use Rattle.forest.specs.Growth.{pushed, with-row, Fresh, Inserted}
-use Rattle.forest.proofs.Packing.{word-row, bucket-small}
+use Rattle.marks.specs.Marks.{marked, Marks}
+use Rattle.forest.proofs.Packing.{word-row, bucket-small, key-small}
+use Rattle.forest.proofs.Marking.{length-marked, marked-indexed}
 use Rattle.forest.proofs.Walking.{walk-in, walk-more, count-le}
 use Rattle.forest.proofs.Joining.{with-in, with-old, with-new, count-more}
-use Rattle.forest.proofs.Pushing.{length-pushed, head-new, head-old, link-new, walk-keep}
+use Rattle.forest.proofs.Pushing.{length-pushed, head-new, head-old, link-new, walk-keep, marks-keep}
 
 -- prefixes, with that of c
 abbrev par-with : (ℕ → ℕ) → ℕ → ℕ → ℕ → ℕ
@@ -38,7 +40,7 @@ same-or-not x y = go (eqb x y) refl
     go true e = inl (eqb-true x y e)
     go false e = inr (eqb-false x y e)
 
-module _ (R : ℕ → List ℕ) (n : ℕ) (half : List ℕ) (S : ℕ → Bool) (I : Indexed R n half S) (c p : ℕ) (A : 8192 ≤ length half)
+module _ (R : ℕ → List ℕ) (n : ℕ) (half : List ℕ) (S : ℕ → Bool) (I : Indexed R n half S) (c p : ℕ) (A : 7680 ≤ length half)
     (F : Fresh R n S c) (L : Longest R (In S) (R c) p) where
   abbrev par' : ℕ → ℕ
   par' = par-with (I .par) c p
@@ -104,6 +106,12 @@ module _ (R : ℕ → List ℕ) (n : ℕ) (half : List ℕ) (S : ℕ → Bool) (
       new : (d : ℕ) → d ≡ c → Prefix R (In (with-row S c)) d (par' d)
       new d e = rw (e, par-new (I .par) c p) prefix-new
 
+-- row c goes under p: the byte beyond p, with which p is marked, tells its bucket
+module _ (R : ℕ → List ℕ) (n : ℕ) (half : List ℕ) (S : ℕ → Bool) (I : Indexed R n half S) (c p : ℕ) (A : 7680 ≤ length half)
+    (F : Fresh R n S c) (L : Longest R (In S) (R c) p) (Q : getD (R c) (length (R p)) 0 < 256) (M : marked half marksFrom (childKey p (getD (R c) (length (R p)) 0)) ≡ true) where
+  abbrev parents : ℕ → ℕ
+  parents = par-with (I .par) c p
+
   -- the bucket, the word and the half with it
   abbrev B : ℕ
   B = bucketOf p (getD (R c) (length (R p)) 0)
@@ -117,33 +125,33 @@ module _ (R : ℕ → List ℕ) (n : ℕ) (half : List ℕ) (S : ℕ → Bool) (
   C : c < 4096
   C = let z = F .below in let f = I .few in omega arith
 
-  H : B < 4096
-  H = bucket-small p (getD (R c) (length (R p)) 0)
+  H : B < 2560
+  H = bucket-small p (getD (R c) (length (R p)) 0) Q
 
   W-row : W % 8192 ≡ c
   W-row = let z = C in word-row c p (length (R c)) (omega arith)
 
-  unmet : (g k : ℕ) → g < 4096 → k ≤ n → (v : ℕ) → Mem v (walk n half k (getD half g 0)) → v % 8192 ≡ c → ⊥
+  unmet : (g k : ℕ) → g < 2560 → k ≤ n → (v : ℕ) → Mem v (walk n half k (getD half g 0)) → v % 8192 ≡ c → ⊥
   unmet g k l h v m e =
       let E = I .only g v l (walk-more n half k n (getD half g 0) v h m) in
       let b = I .below (E .row) (E .in-S) in
       let f = I .few in
       let r : v % 8192 ≡ E .row = ap (λ (z : ℕ). row-of z) (E .is) ∙ word-row (E .row) (I .par (E .row)) (length (R (E .row))) (omega arith) in
-      not-old (E .row) (E .in-S) (sym r ∙ e)
+      not-old R n half S I c p A F L (E .row) (E .in-S) (sym r ∙ e)
 
-  keep : (g k : ℕ) → g < 4096 → k ≤ n → walk n half' k (getD half g 0) ≡ walk n half k (getD half g 0)
+  keep : (g k : ℕ) → g < 2560 → k ≤ n → walk n half' k (getD half g 0) ≡ walk n half k (getD half g 0)
   keep g k l h = walk-keep half B c W H C A n k (getD half g 0) (unmet g k l h)
 
   front : (k : ℕ) → k ≤ n → walk n half' (suc k) W ≡ W ∷ walk n half k (getD half B 0)
   front k l =
       walk-in n half' k W (let z = F .below in let r = W-row in omega arith)
-      ∙ ap {B = List ℕ} (λ t. W ∷ t) (ap (λ (i : ℕ). walk n half' k (getD half' (4096 + i) 0)) W-row
+      ∙ ap {B = List ℕ} (λ t. W ∷ t) (ap (λ (i : ℕ). walk n half' k (getD half' (3584 + i) 0)) W-row
       ∙ ap (walk n half' k) (link-new half B c W H C A) ∙ keep B k H l)
 
   room : count S n < n
   room = let z = count-more S c n (F .below) (F .new) in let w = count-le (with-row S c) n in omega arith
 
-  listed-at : (v g : ℕ) → g < 4096 → Mem v (walk n half (count S n) (getD half g 0)) → Mem v (walk n half' (suc (count S n)) (getD half' g 0))
+  listed-at : (v g : ℕ) → g < 2560 → Mem v (walk n half (count S n) (getD half g 0)) → Mem v (walk n half' (suc (count S n)) (getD half' g 0))
   listed-at v g l m = go (same-or-not g B)
     where
       go : (g ≡ B) ⊎ (g ≡ B → ⊥) → Mem v (walk n half' (suc (count S n)) (getD half' g 0))
@@ -158,15 +166,18 @@ module _ (R : ℕ → List ℕ) (n : ℕ) (half : List ℕ) (S : ℕ → Bool) (
   listed-new : Mem W (walk n half' (suc (count S n)) (getD half' B 0))
   listed-new = let r = room in rw (head-new half B c W H C A, front (count S n) (omega arith)) (inl refl)
 
-  entry-old : (g v : ℕ) → Entry R (I .par) S g v → Entry R par' (with-row S c) g v
+  kept : (d : ℕ) → In S d → parents d ≡ I .par d
+  kept = kept-par R n half S I c p A F L
+
+  entry-old : (g v : ℕ) → Entry R (I .par) S g v → Entry R parents (with-row S c) g v
   entry-old g v E = record {
     row = E .row;
     in-S = with-old S c (E .row) (E .in-S);
-    is = rw (kept-par (E .row) (E .in-S)) (E .is);
-    home = rw (kept-par (E .row) (E .in-S)) (E .home);
+    is = rw (kept (E .row) (E .in-S)) (E .is);
+    home = rw (kept (E .row) (E .in-S)) (E .home);
   }
 
-  entry-new : (g v : ℕ) → g ≡ B → v ≡ W → Entry R par' (with-row S c) g v
+  entry-new : (g v : ℕ) → g ≡ B → v ≡ W → Entry R parents (with-row S c) g v
   entry-new g v e f = record {
     row = c;
     in-S = with-new S c;
@@ -174,12 +185,12 @@ module _ (R : ℕ → List ℕ) (n : ℕ) (half : List ℕ) (S : ℕ → Bool) (
     home = rw (par-new (I .par) c p) (sym e);
   }
 
-  only-at : (g v k : ℕ) → g < 4096 → k ≤ n → Mem v (walk n half' k (getD half' g 0)) → Entry R par' (with-row S c) g v
+  only-at : (g v k : ℕ) → g < 2560 → k ≤ n → Mem v (walk n half' k (getD half' g 0)) → Entry R parents (with-row S c) g v
   unfolding walk
   only-at g v zero l h m = absurd m
   only-at g v (suc k) l h m = go (same-or-not g B)
     where
-      go : (g ≡ B) ⊎ (g ≡ B → ⊥) → Entry R par' (with-row S c) g v
+      go : (g ≡ B) ⊎ (g ≡ B → ⊥) → Entry R parents (with-row S c) g v
       go (inl e) =
           let m1 : Mem v (walk n half' (suc k) W) = rw (e, head-new half B c W H C A) at m in
           let m2 : Mem v (W ∷ walk n half k (getD half B 0)) = rw (front k (omega arith)) at m1 in
@@ -192,28 +203,32 @@ module _ (R : ℕ → List ℕ) (n : ℕ) (half : List ℕ) (S : ℕ → Bool) (
           let m2 : Mem v (walk n half (suc k) (getD half g 0)) = rw (keep g (suc k) l h) at m1 in
           entry-old g v (I .only g v l (walk-more n half (suc k) n (getD half g 0) v h m2))
 
-  inserted : getD (R c) (length (R p)) 0 < 256 → Indexed R n half' (with-row S c)
-  inserted b = record {
-    par = par';
-    forest = forest-new;
+  inserted : Indexed R n half' (with-row S c)
+  inserted = record {
+    par = parents;
+    forest = forest-new R n half S I c p A F L;
     few = I .few;
     below = λ d s. ⊎-elim (λ e. let z = F .below in omega arith) (λ t. I .below d t) (with-in S c d s);
-    bytes = λ d s. ⊎-elim (small d) (λ t. rw (kept-par d t) (I .bytes d t)) (with-in S c d s);
+    bytes = λ d s. ⊎-elim (small d) (λ t. rw (kept d t) (I .bytes d t)) (with-in S c d s);
     listed = λ d s. rw (count-more S c n (F .below) (F .new)) (⊎-elim (new d) (old d) (with-in S c d s));
+    marks = λ d s. marks-keep half B c W H C A (childKey (parents d) (byteOf R parents d)) (key-small (parents d) (byteOf R parents d)) ∙ ⊎-elim (key d) (λ t. rw (kept d t) (I .marks d t)) (with-in S c d s);
     only = λ g v l m. only-at g v n l (omega arith) m;
   }
     where
-      small : (d : ℕ) → d ≡ c → byteOf R par' d < 256
-      small d e = rw (e, par-new (I .par) c p) b
+      small : (d : ℕ) → d ≡ c → byteOf R parents d < 256
+      small d e = rw (e, par-new (I .par) c p) Q
 
-      new : (d : ℕ) → d ≡ c → Mem (wordOf R par' d) (walk n half' (suc (count S n)) (getD half' (home R par' d) 0))
+      key : (d : ℕ) → d ≡ c → marked half marksFrom (childKey (parents d) (byteOf R parents d)) ≡ true
+      key d e = rw (e, par-new (I .par) c p) M
+
+      new : (d : ℕ) → d ≡ c → Mem (wordOf R parents d) (walk n half' (suc (count S n)) (getD half' (home R parents d) 0))
       new d e = rw (e, par-new (I .par) c p) listed-new
 
-      old : (d : ℕ) → In S d → Mem (wordOf R par' d) (walk n half' (suc (count S n)) (getD half' (home R par' d) 0))
-      old d s = rw (kept-par d s) (listed-at (wordOf R (I .par) d) (home R (I .par) d) (bucket-small (I .par d) (byteOf R (I .par) d)) (I .listed d s))
+      old : (d : ℕ) → In S d → Mem (wordOf R parents d) (walk n half' (suc (count S n)) (getD half' (home R parents d) 0))
+      old d s = rw (kept d s) (listed-at (wordOf R (I .par) d) (home R (I .par) d) (bucket-small (I .par d) (byteOf R (I .par) d) (I .bytes d s)) (I .listed d s))
 
 -- the descent from the root along t, the bytes of row c
-module _ (R : ℕ → List ℕ) (n : ℕ) (half : List ℕ) (c : ℕ) (t : List ℕ) (p k : ℕ) (A : 8192 ≤ length half) (e : t ≡ R c) (D : Descent R n half none 0 t p k) where
+module _ (R : ℕ → List ℕ) (n : ℕ) (half : List ℕ) (c : ℕ) (t : List ℕ) (p k : ℕ) (A : 7680 ≤ length half) (e : t ≡ R c) (D : Descent R n half none 0 t p k) where
   from-root : (S : ℕ → Bool) → Indexed R n half S → Longest R (In S) (R c) p × (k ≡ length (R p))
   from-root S I = rw (I .forest .root, e) at (D .longest S (record { index = I; known = inl refl; size = sym (ap length (I .forest .root)) }))
 
@@ -227,11 +242,14 @@ module _ (R : ℕ → List ℕ) (n : ℕ) (half : List ℕ) (c : ℕ) (t : List 
   }
 
   -- the stores that the code makes, with what it has at hand
-  pub insert-done : (b h w l : ℕ) → b ≡ getD t k 0 → b < 256 → h ≡ bucketOf p b → w ≡ word c p l → l ≡ length t → Inserted R n half c (pushed half h c w)
-  insert-done b h w l bi bs hi wi li = record {
-    kept = length-pushed half h c w;
+  pub insert-done : (half₁ : List ℕ) (key b h w l : ℕ) → Marks half marksFrom key half₁ → key ≡ childKey p b → b ≡ getD t k 0 → b < 256 → h ≡ bucketOf p b → w ≡ word c p l → l ≡ length t
+      → Inserted R n half c (pushed half₁ h c w)
+  insert-done half₁ key b h w l m ki bi bs hi wi li = record {
+    kept = length-pushed half₁ h c w ∙ length-marked half key half₁ m;
     index = λ S I F.
         let q = from-root S I in
         let y : b ≡ getD (R c) (length (R p)) 0 = bi ∙ (λ i. getD (e i) (q .1 i) 0) in
-        rw (hi ∙ ap (bucketOf p) y, wi ∙ ap (word c p) (li ∙ ap length e)) (inserted R n half S I c p A F (q .0) (omega arith));
+        rw (hi ∙ ap (bucketOf p) y, wi ∙ ap (word c p) (li ∙ ap length e))
+        (inserted R n half₁ S (marked-indexed R n half S key half₁ (omega (arith, ki, key-small p b)) m I) c p (omega (arith, length-marked half key half₁ m)) F (q .0) (omega arith)
+        (ap (λ (i : ℕ). marked half₁ marksFrom i) (ap (λ (i : ℕ). childKey p i) (sym y) ∙ sym ki) ∙ m .new));
   }

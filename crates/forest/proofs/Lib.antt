@@ -6,5 +6,6 @@ pub mod Searching
 pub mod Descending
 pub mod Joining
 pub mod Pushing
+pub mod Marking
 pub mod Inserting
 pub mod Emptying

@@ -1,10 +1,13 @@
 -- What a word packs can be read back, and a bucket tells the byte. Assumes nothing.
-use mathlib.Core.Path.{_≡_, sym, _∙_}
+use mathlib.Core.Path.{_≡_, refl, sym, _∙_}
 use mathlib.Core.Logic.{_⊎_, inl, inr}
-use Prim.Native.Nat.{ℕ, _%_, _<_}
+use mathlib.Core.Bool.{Bool, true, false}
+use Prim.Native.Nat.{ℕ, _+_, _*_, _/_, _%_, _<_}
 use native.Mathlib.Omega.{arith}
+use lib.Dec.{eqb}
+use borrow.Author.Tests.{eq-eqb, ne-eqb}
 use Rattle.placed_rows.specs.Rows.{none}
-use Rattle.forest.specs.Words.{word, row-of, code, code-of, len-of, bucketOf}
+use Rattle.forest.specs.Words.{word, row-of, code, code-of, len-of, bucketOf, childKey}
 
 pub word-row : (d q l : ℕ) → d < 8192 → row-of (word d q l) ≡ d
 unfolding word
@@ -18,17 +21,34 @@ pub word-len : (d q l : ℕ) → d < 8192 → 0 < l → len-of (word d q l) ≡ 
 unfolding word
 word-len d q l h k = omega arith
 
-pub bucket-small : (q b : ℕ) → bucketOf q b < 4096
+pub bucket-small : (q b : ℕ) → b < 256 → bucketOf q b < 2560
 unfolding bucketOf
-bucket-small q b = omega arith
+bucket-small q b h = go (eqb q none) refl
+  where
+    go : (r : Bool) → eqb q none ≡ r → bucketOf q b < 2560
+    go true e = rw (e, bucketOf) (omega arith)
+    go false e = rw (e, bucketOf) (omega arith)
 
-pub bucket-byte : (q b c : ℕ) → b < 256 → c < 256 → bucketOf q b ≡ bucketOf q c → b ≡ c
+pub bucket-byte : (q b c : ℕ) → bucketOf q b ≡ bucketOf q c → b ≡ c
 unfolding bucketOf
-bucket-byte q b c h k e = omega arith
+bucket-byte q b c = go (eqb q none) refl
+  where
+    go : (r : Bool) → eqb q none ≡ r → bucketOf q b ≡ bucketOf q c → b ≡ c
+    go true e h = rw (e, bucketOf) at h
+    go false e h = let z : 256 + q % 8192 * 2654435769 % 4294967296 / 2097152 + b ≡ 256 + q % 8192 * 2654435769 % 4294967296 / 2097152 + c = rw (e, bucketOf) at h in omega arith
 
-pub bucket-code : (p q b : ℕ) → code p ≡ code q → bucketOf p b ≡ bucketOf q b
+pub bucket-root : (q b : ℕ) → q ≡ none → bucketOf q b ≡ b
 unfolding bucketOf
-bucket-code p q b e = rw e
+bucket-root q b e = rw (eq-eqb q none e, bucketOf)
+
+pub bucket-row : (q b : ℕ) → (q ≡ none → ⊥) → bucketOf q b ≡ 256 + q % 8192 * 2654435769 % 4294967296 / 2097152 + b
+unfolding bucketOf
+bucket-row q b e = rw (ne-eqb q none e, bucketOf)
+
+-- a key is one of 32,768, in 1,024 numbers
+pub key-small : (q b : ℕ) → childKey q b < 32768
+unfolding childKey
+key-small q b = omega arith
 
 -- none and the rows have codes of their own
 pub code-same : (p q : ℕ) → (p ≡ none) ⊎ (p < 4096) → (q ≡ none) ⊎ (q < 4096) → code p ≡ code q → p ≡ q

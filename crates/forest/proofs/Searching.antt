@@ -3,18 +3,20 @@ use mathlib.Core.Path.{_≡_, refl, sym, ap, _∙_}
 use mathlib.Core.List.{List, [], _++_, append-assoc}
 use mathlib.Core.Logic.{_⊎_, inl, inr, ⊎-elim}
 use mathlib.Core.Bool.{Bool, true, false}
-use Prim.Native.Nat.{ℕ, _+_, _-_, _≤_, _<_}
+use Prim.Native.Nat.{ℕ, _+_, _-_, _/_, _≤_, _<_}
 use native.Mathlib.Omega.{arith}
 use lib.ListN.{length, length-append, length-drop, getD, drop, List·getD-append}
 use lib.Seq.{getD-drop, drop-append-seam}
 use Rattle.placed_rows.specs.Rows.{none}
 use Rattle.placed_rows.specs.Texts.{Begins, begins}
-use Rattle.placed_rows.proofs.Beginning.{begins-split, begins-append, begins-length, beyond, cancel}
+use Rattle.marks.specs.Marks.{marked}
+use Rattle.placed_rows.proofs.Beginning.{true-false, begins-split, begins-append, begins-length, beyond, cancel}
 use Rattle.placed_rows.specs.Longest.{Known}
-use Rattle.forest.specs.Words.{row-of, code, len-of, bucketOf, walk, Mem, In, count, byteOf, home, wordOf, Indexed}
+use Rattle.forest.specs.Words.{row-of, code, len-of, bucketOf, childKey, marksFrom, walk, Mem, In, count, byteOf, home, wordOf, Indexed}
 use Rattle.forest.specs.Lookups.{WordOf, Fits, Child, At, ChildIs}
 use Rattle.forest.proofs.NoChild.{filled}
-use Rattle.forest.proofs.Packing.{word-row, word-len, bucket-small, bucket-byte, bucket-code, code-same}
+use Rattle.forest.proofs.Fitting.{fits-one}
+use Rattle.forest.proofs.Packing.{word-row, word-len, bucket-small, bucket-byte, code-same}
 use Rattle.forest.proofs.Walking.{walk-left, walk-more, count-le}
 
 drop-to : (u t v : List ℕ) (k : ℕ) → t ≡ u ++ v → k ≡ length u → drop k t ≡ v
@@ -91,11 +93,11 @@ module _ (R : ℕ → List ℕ) (n : ℕ) (half : List ℕ) (S : ℕ → Bool) (
   same-prefix k d s e = code-same (I .par d) p (small (I .par d) (I .forest .prefix d s .known)) (small p k) e
 
   -- the byte that the bucket tells
-  pub told : Known (In S) p → getD rest 0 0 < 256 → (d : ℕ) → In S d → home R (I .par) d ≡ bucketOf p (getD rest 0 0) → code (I .par d) ≡ code p
+  pub told : Known (In S) p → (d : ℕ) → In S d → home R (I .par) d ≡ bucketOf p (getD rest 0 0) → code (I .par d) ≡ code p
       → getD (R d) (length (R p)) 0 ≡ getD rest 0 0
-  told k b d s h e =
+  told k d s h e =
       let q = same-prefix k d s e in
-      let z = bucket-byte p (byteOf R (I .par) d) (getD rest 0 0) (I .bytes d s) b (sym (bucket-code (I .par d) p (byteOf R (I .par) d) e) ∙ h) in
+      let z = bucket-byte p (byteOf R (I .par) d) (getD rest 0 0) (ap (λ (i : ℕ). bucketOf i (byteOf R (I .par) d)) (sym q) ∙ h) in
       ap (λ (i : ℕ). getD (R d) (length (R i)) 0) (sym q) ∙ z
 
 -- the walk has come to the word x with k steps left: the words that are left stand in the bucket, and a child is among them
@@ -104,13 +106,16 @@ pub record Search (R : ℕ → List ℕ) (n : ℕ) (half : List ℕ) (p len : �
   pub left : (S : ℕ → Bool) (a : At R n half S p len) (d : ℕ) → Child R (a .index .par) (In S) p rest d → Mem (wordOf R (a .index .par) d) (walk n half k x)
 
 module _ (R : ℕ → List ℕ) (n : ℕ) (half : List ℕ) (p len : ℕ) (rest : List ℕ) where
+  next-byte : (S : ℕ → Bool) (I : Indexed R n half S) (d : ℕ) → Child R (I .par) (In S) p rest d → byteOf R (I .par) d ≡ getD rest 0 0
+  next-byte S I d g = ap (λ (i : ℕ). getD (R d) (length (R i)) 0) (g .under) ∙ tail R n half S I p rest d g .byte
+
   pub search-start : (h : ℕ) → h ≡ bucketOf p (getD rest 0 0) → Search R n half p len rest (getD half h 0) n
   search-start h e = rw e (record { kept = λ w m. m; left = begin })
     where
       begin : (S : ℕ → Bool) (a : At R n half S p len) (d : ℕ) → Child R (a .index .par) (In S) p rest d → Mem (wordOf R (a .index .par) d) (walk n half n (getD half (bucketOf p (getD rest 0 0)) 0))
       begin S a d g =
           let I = a .index in
-          let b : byteOf R (I .par) d ≡ getD rest 0 0 = ap (λ (i : ℕ). getD (R d) (length (R i)) 0) (g .under) ∙ tail R n half S I p rest d g .byte in
+          let b = next-byte S I d g in
           let h : home R (I .par) d ≡ bucketOf p (getD rest 0 0) = λ i. bucketOf (g .under i) (b i) in
           walk-more n half (count S n) n (getD half (bucketOf p (getD rest 0 0)) 0) (wordOf R (I .par) d) (count-le S n) (rw h at (I .listed d (g .in-K)))
 
@@ -125,7 +130,7 @@ module _ (R : ℕ → List ℕ) (n : ℕ) (half : List ℕ) (p len : ℕ) (rest 
   }
 
   pub search-step : (x i k : ℕ) → i ≡ row-of x → 0 < k → i < n → Fits R n p len rest x false → Search R n half p len rest x k
-      → Search R n half p len rest (getD half (4096 + i) 0) (k - 1)
+      → Search R n half p len rest (getD half (3584 + i) 0) (k - 1)
   search-step x i k ix h l miss s = rw ix (record {
     kept = λ w m. s .kept w (rw (walk-left n half k x h (omega arith)) (inr m));
     left = λ S a d g. ⊎-elim (λ z. absurd (no S a d g z)) (λ z. z) (rw (walk-left n half k x h (omega arith)) at (s .left S a d g));
@@ -153,20 +158,35 @@ module _ (R : ℕ → List ℕ) (n : ℕ) (half : List ℕ) (p len : ℕ) (rest 
       found : (S : ℕ → Bool) (a : At R n half S p len) → Child R (a .index .par) (In S) p rest (row-of x) × (l ≡ length (R (row-of x)))
       found S a =
           let I = a .index in
-          let m = I .only (bucketOf p (getD rest 0 0)) x (bucket-small p (getD rest 0 0)) (s .kept x (rw (walk-left n half k x h (omega arith)) (inl refl))) in
+          let m = I .only (bucketOf p (getD rest 0 0)) x (bucket-small p (getD rest 0 0) byte) (s .kept x (rw (walk-left n half k x h (omega arith)) (inl refl))) in
           let d = m .row in
-          let W = tested S a x d (m .in-S) (m .is) (told R n half S I p rest (a .known) byte d (m .in-S) (m .home)) in
+          let W = tested S a x d (m .in-S) (m .is) (told R n half S I p rest (a .known) d (m .in-S) (m .home)) in
           let y = hit .yes d (I .par d) W refl in
           let z = W .below in
           let rd : row-of x ≡ d = ap (λ (v : ℕ). row-of v) (m .is) ∙ word-row d (I .par d) (length (R d)) (omega arith) in
           let ld : l ≡ length (R d) = lx ∙ ap (λ (v : ℕ). len-of v) (m .is) ∙ word-len d (I .par d) (length (R d)) (omega arith) (W .filled) in
           rw rd (is-child R n half S I p rest d (m .in-S) (same-prefix R n half S I p rest (a .known) d (m .in-S) (y .under)) (rw (a .size) at (y .on)), ld)
 
+  -- a word of the root's bucket that has the root as its prefix and one byte
+  pub search-one : (x h : ℕ) → p ≡ none → len ≡ 0 → h ≡ bucketOf p (getD rest 0 0) → x ≡ getD half h 0 → row-of x < n → n ≤ 4096 → getD rest 0 0 < 256 → 0 < length rest
+      → x / 8192 ≡ 8191 → ChildIs R n half p len rest (row-of x) 1
+  search-one x h pn ln hi xi b N byte room one =
+      let c : code p ≡ 8191 = rw pn in
+      let z : len-of x ≡ 1 = omega arith in
+      search-hit x (row-of x) n 1 refl (omega arith) b N (sym z) (omega arith) byte (fits-one R n p len rest x N (omega arith) (omega arith) room) (rw (sym xi) at (search-start h hi))
+
   nothing : (l : ℕ) → ((S : ℕ → Bool) (a : At R n half S p len) (d : ℕ) → Child R (a .index .par) (In S) p rest d → ⊥) → ChildIs R n half p len rest none l
   nothing l h = record { bound = inl refl; sound = λ z. absurd (z refl); complete = λ _. h }
 
   pub search-over : (x k l : ℕ) → walk n half k x ≡ [] → Search R n half p len rest x k → ChildIs R n half p len rest none l
   search-over x k l e s = nothing l (λ S a d g. rw e at (s .left S a d g))
+
+  -- where prefix and next byte are not marked there is no child
+  pub search-unmarked : (l : ℕ) → marked half marksFrom (childKey p (getD rest 0 0)) ≡ false → ChildIs R n half p len rest none l
+  search-unmarked l e = nothing l (λ S a d g.
+      let I = a .index in
+      let b = next-byte S I d g in
+      true-false (sym (I .marks d (g .in-K)) ∙ (λ i. marked half marksFrom (childKey (g .under i) (b i))) ∙ e))
 
   pub search-empty : (l : ℕ) → length rest ≡ 0 → ChildIs R n half p len rest none l
   search-empty l e = nothing l (λ S a d g.

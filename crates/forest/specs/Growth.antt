@@ -10,11 +10,11 @@ use Rattle.forest.specs.Words.{In, Indexed}
 
 -- the half with empty buckets
 unfoldable pub cleared : List ℕ → List ℕ
-cleared half = replicate 4096 none ++ drop 4096 half
+cleared half = replicate 3584 none ++ drop 3584 half
 
 -- the half after the word w of row c was put at the front of bucket h
 unfoldable pub pushed : List ℕ → ℕ → ℕ → ℕ → List ℕ
-pushed half h c w = set (set half (4096 + c) (getD half h 0)) h w
+pushed half h c w = set (set half (3584 + c) (getD half h 0)) h w
 
 -- the rows of S, and row c
 abbrev pub with-row : (ℕ → Bool) → ℕ → ℕ → Bool

@@ -55,6 +55,10 @@ pub record ChildIs (R : ℕ → List ℕ) (n : ℕ) (half : List ℕ) (p len : �
   pub sound : (r ≡ none → ⊥) → (S : ℕ → Bool) (a : At R n half S p len) → Child R (a .index .par) (In S) p rest r × (l ≡ length (R r))
   pub complete : r ≡ none → (S : ℕ → Bool) (a : At R n half S p len) (d : ℕ) → Child R (a .index .par) (In S) p rest d → ⊥
 
+-- r is none, or the root's child that goes on as text does, and l its length
+abbrev pub OneByte : (ℕ → List ℕ) → ℕ → List ℕ → List ℕ → ℕ → ℕ → Type 0
+OneByte R n half text r l = (r ≡ none → ⊥) → ChildIs R n half none 0 text r l
+
 -- r is the longest row that begins the bytes of from, len of them, followed by text, and l its length
 pub record Descent (R : ℕ → List ℕ) (n : ℕ) (half : List ℕ) (from len : ℕ) (text : List ℕ) (r l : ℕ) : Type 0 where
   pub bound : ((r ≡ from) × (l ≡ len)) ⊎ ((r < n) × (len < l))

@@ -1,12 +1,14 @@
--- The arrangement of one half of the search area: 4,096 heads of buckets, then 4,096 links. A bucket has the rows of one hash of prefix and next byte.
--- A head or a link holds a word, which packs a row, its prefix and its length, or none. Assumes nothing.
+-- The arrangement of one half of the search area: 2,560 heads of buckets, then 1,024 numbers of marks, then 4,096 links. A bucket has the rows of one
+-- hash of prefix and next byte; the one-byte rows have buckets of their own. A head or a link holds a word, which packs a row, its prefix and its length, or
+-- none. A prefix and a next byte that are not marked have no row. Assumes nothing.
 use mathlib.Core.Path.{_≡_}
 use mathlib.Core.List.{List, [], _∷_}
 use mathlib.Core.Logic.{_⊎_}
 use mathlib.Core.Bool.{Bool, true, false}
 use Prim.Native.Nat.{ℕ, zero, suc, _+_, _-_, _*_, _/_, _%_, _≤_, _<_}
 use lib.ListN.{length, getD}
-use lib.Dec.{ltb}
+use lib.Dec.{ltb, eqb}
+use Rattle.marks.specs.Marks.{marked}
 use Rattle.placed_rows.specs.Rows.{none}
 use Rattle.placed_rows.specs.Longest.{Prefix}
 
@@ -35,12 +37,19 @@ len-of w = w / 67108864 + 1
 
 -- the bucket of the rows whose prefix is q, and whose next byte is b
 unfoldable pub bucketOf : ℕ → ℕ → ℕ
-bucketOf q b = (q % 8192 * 2654435769 / 1048576 + b) % 4096
+bucketOf q b = elim (eqb q none) [ true ↦ b | false ↦ 256 + q % 8192 * 2654435769 % 4294967296 / 2097152 + b ]
+
+-- the key under which they are marked, and where the marks begin
+unfoldable pub childKey : ℕ → ℕ → ℕ
+childKey q b = (q % 8192 * 256 + b) * 2654435769 % 4294967296 / 131072
+
+abbrev pub marksFrom : ℕ
+marksFrom = 2560
 
 -- the words from x on, by the links, at most k of them
 unfoldable pub walk : ℕ → List ℕ → ℕ → ℕ → List ℕ
 walk n half zero x = []
-walk n half (suc k) x = elim (ltb (x % 8192) n) [ true ↦ x ∷ walk n half k (getD half (4096 + x % 8192) 0) | false ↦ [] ]
+walk n half (suc k) x = elim (ltb (x % 8192) n) [ true ↦ x ∷ walk n half k (getD half (3584 + x % 8192) 0) | false ↦ [] ]
 
 abbrev pub Mem : ℕ → List ℕ → Type 0
 Mem w [] = ⊥
@@ -71,7 +80,7 @@ pub record Entry (R : ℕ → List ℕ) (par : ℕ → ℕ) (S : ℕ → Bool) (
   pub is : w ≡ wordOf R par row
   pub home : home R par row ≡ h
 
--- the half lists the rows of S: each stands in its bucket, within as many steps as S has rows, and no other word stands in a bucket
+-- the half lists the rows of S: each is marked and stands in its bucket, within as many steps as S has rows, and no other word stands in a bucket
 pub record Indexed (R : ℕ → List ℕ) (n : ℕ) (half : List ℕ) (S : ℕ → Bool) : Type 0 where
   pub par : ℕ → ℕ
   pub forest : Forest R par (In S)
@@ -79,4 +88,5 @@ pub record Indexed (R : ℕ → List ℕ) (n : ℕ) (half : List ℕ) (S : ℕ �
   pub below : (d : ℕ) → In S d → d < n
   pub bytes : (d : ℕ) → In S d → byteOf R par d < 256
   pub listed : (d : ℕ) → In S d → Mem (wordOf R par d) (walk n half (count S n) (getD half (home R par d) 0))
-  pub only : (h w : ℕ) → h < 4096 → Mem w (walk n half n (getD half h 0)) → Entry R par S h w
+  pub marks : (d : ℕ) → In S d → marked half marksFrom (childKey (par d) (byteOf R par d)) ≡ true
+  pub only : (h w : ℕ) → h < 2560 → Mem w (walk n half n (getD half h 0)) → Entry R par S h w

@@ -1,14 +1,20 @@
 // One half of the search area: the rows of a phrase file, read from the front or from the back, as a forest under "next shorter prefix".
 ghost use mathlib.Core.Path.{_≡_};
+ghost use mathlib.Core.List.{List};
+ghost use mathlib.Core.Bool.{true, false};
 ghost use Prim.Native.Nat.{ℕ, _%_, _<_, _≤_};
 ghost use lib.ListN.{length};
-ghost use Rattle.placed_rows.specs.Rows.{row, Placed};
+ghost use Rattle.placed_rows.specs.Rows.{none, row, Placed};
 ghost use Rattle.placed_rows.specs.Texts.{facing, rowFacing, Small};
-ghost use Rattle.forest.specs.Words.{word, row-of, len-of, bucketOf};
-ghost use Rattle.forest.specs.Lookups.{Fits, ChildIs, Descent};
+ghost use Rattle.marks.specs.Marks.{marked};
+ghost use Rattle.forest.specs.Words.{word, row-of, len-of, bucketOf, childKey, marksFrom};
+ghost use Rattle.forest.specs.Lookups.{Fits, OneByte, ChildIs, Descent};
 ghost use Rattle.forest.specs.Growth.{cleared, pushed, Inserted};
 use placed_rows::Match;
 use placed_rows::NONE;
+
+// Where the marks begin.
+const MARKS: usize = 2560;
 
 fn no_match() -> Match
     ensures { λ r. ⌜ r .row ≡ 4294967295 ⌝ }
@@ -40,9 +46,30 @@ fn word_of(c: usize, p: u32, l: usize) -> u32
 
 // The bucket of the rows whose prefix is p and whose next byte is b.
 fn bucket(p: u32, b: u8) -> usize
-    ensures { λ r. ⌜ Small (bucketOf p b) 4096 r ⌝ }
+    ensures { λ r. ⌜ Small (bucketOf p b) 2560 r ⌝ }
 {
-    ((p as u64 % 8192) * 2654435769 / 1048576 + b as u64) as usize % 4096
+    if p == NONE {
+        return b as usize;
+    }
+    256 + (p as usize % 8192) * 2654435769 % 4294967296 / 2097152 + b as usize
+}
+
+// The key under which the prefix p and the next byte b are marked.
+fn child_key(p: u32, b: u8) -> usize
+    ensures { λ r. ⌜ Small (childKey p b) 32768 r ⌝ }
+{
+    ((p as usize % 8192) * 256 + b as usize) * 2654435769 % 4294967296 / 131072
+}
+
+// Whether the marks say that no row has the prefix p and the next byte b. Each byte has a row, so the root is not asked about.
+fn has_no_child(half: &[u32], p: u32, b: u8) -> bool
+    requires { ⌜ 7680 ≤ length (now half) ⌝ }
+    ensures { λ r. ⌜ (r ≡ true → marked (now (half .entry)) marksFrom (childKey p b) ≡ false) ⌝ }
+{
+    if p == NONE {
+        return false;
+    }
+    !marks::is_marked(half, MARKS, child_key(p, b))
 }
 
 // Is w the word of a row whose prefix is p, of len bytes, and that goes on as rest does?
@@ -89,13 +116,17 @@ pub fn child(
     back: bool,
 ) -> Match
     requires { ⌜ Placed (now file) (now places) n ⌝ }
-    requires { ⌜ 8192 ≤ length (now half) ⌝ }
+    requires { ⌜ 7680 ≤ length (now half) ⌝ }
     ensures { λ r. ⌜ ChildIs (rowFacing back (now (file .entry)) (now (places .entry)) n) n (now (half .entry)) p len (facing back (now (rest .entry))) (r .row) (r .len) ⌝ }
 {
     if rest.len() == 0 {
         return no_match();
     }
-    let mut w = half[bucket(p, placed_rows::first(rest, back))];
+    let next = placed_rows::first(rest, back);
+    if has_no_child(half, p, next) {
+        return no_match();
+    }
+    let mut w = half[bucket(p, next)];
     let mut left = n;
     while left > 0 {
         let i = row_of(w);
@@ -108,7 +139,7 @@ pub fn child(
                 len: len_of(w),
             };
         }
-        w = half[4096 + i];
+        w = half[3584 + i];
         left -= 1;
     }
     no_match()
@@ -126,7 +157,7 @@ pub fn descend(
     back: bool,
 ) -> Match
     requires { ⌜ Placed (now file) (now places) n ⌝ }
-    requires { ⌜ 8192 ≤ length (now half) ⌝ }
+    requires { ⌜ 7680 ≤ length (now half) ⌝ }
     ensures { λ r. ⌜ Descent (rowFacing back (now (file .entry)) (now (places .entry)) n) n (now (half .entry)) from len (facing back (now (text .entry))) (r .row) (r .len) ⌝ }
 {
     let mut best = from;
@@ -150,39 +181,105 @@ pub fn descend(
     }
 }
 
+// The one-byte row of the first byte of text, with its length: the root's child, found by one load. NONE where its bucket has another row first.
+fn one_byte_row(half: &[u32], n: usize, text: &[u8], back: bool) -> Match
+    requires { ⌜ (n ≤ 4096) × (7680 ≤ length (now half)) ⌝ }
+    ensures { λ r. ⌜ ((R : ℕ → List ℕ) → OneByte R n (now (half .entry)) (facing back (now (text .entry))) (r .row) (r .len)) ⌝ }
+{
+    if text.len() == 0 {
+        return no_match();
+    }
+    let w = half[bucket(NONE, placed_rows::first(text, back))];
+    if n <= row_of(w) {
+        return no_match();
+    }
+    // The root is its prefix, and it has one byte.
+    if w / 8192 != 8191 {
+        return no_match();
+    }
+    Match {
+        row: w % 8192,
+        len: 1,
+    }
+}
+
+// The root's child that begins text, or NONE.
+pub fn root_child(
+    file: &[u8],
+    places: &[u32],
+    n: usize,
+    half: &[u32],
+    text: &[u8],
+    back: bool,
+) -> Match
+    requires { ⌜ Placed (now file) (now places) n ⌝ }
+    requires { ⌜ 7680 ≤ length (now half) ⌝ }
+    ensures { λ r. ⌜ ChildIs (rowFacing back (now (file .entry)) (now (places .entry)) n) n (now (half .entry)) none 0 (facing back (now (text .entry))) (r .row) (r .len) ⌝ }
+{
+    let first = one_byte_row(half, n, text, back);
+    if first.row != NONE {
+        return first;
+    }
+    child(file, places, n, half, NONE, 0, text, back)
+}
+
+// The longest row that begins text, with its length, or NONE and 0.
+pub fn longest(
+    file: &[u8],
+    places: &[u32],
+    n: usize,
+    half: &[u32],
+    text: &[u8],
+    back: bool,
+) -> Match
+    requires { ⌜ Placed (now file) (now places) n ⌝ }
+    requires { ⌜ 7680 ≤ length (now half) ⌝ }
+    ensures { λ r. ⌜ Descent (rowFacing back (now (file .entry)) (now (places .entry)) n) n (now (half .entry)) none 0 (facing back (now (text .entry))) (r .row) (r .len) ⌝ }
+{
+    let first = root_child(file, places, n, half, text, back);
+    let r = first.row;
+    if r == NONE {
+        return Match { row: NONE, len: 0 };
+    }
+    let size = first.len;
+    let rest = placed_rows::beyond(text, size, back);
+    descend(file, places, n, half, r, size, rest, back)
+}
+
 // The word w of row c goes to the front of bucket h.
 fn push(half: &mut [u32], h: usize, c: usize, w: u32)
-    requires { ⌜ (c < 4096) × ((h < 4096) × (8192 ≤ length (now half))) ⌝ }
+    requires { ⌜ (c < 4096) × ((h < 2560) × (7680 ≤ length (now half))) ⌝ }
     ensures { λ r. ⌜ now (half .exit) ≡ pushed (now (half .entry)) h c w ⌝ }
 {
-    half[4096 + c] = half[h];
+    half[3584 + c] = half[h];
     half[h] = w;
 }
 
 // Row c goes into the half, under the longest row in it that begins row c.
 pub fn insert(file: &[u8], places: &[u32], n: usize, half: &mut [u32], c: usize, back: bool)
     requires { ⌜ Placed (now file) (now places) n ⌝ }
-    requires { ⌜ (8192 ≤ length (now half)) × ((c < n) × (length (row (now file) (now places) n c) ≤ 64)) ⌝ }
+    requires { ⌜ (7680 ≤ length (now half)) × ((c < n) × (length (row (now file) (now places) n c) ≤ 64)) ⌝ }
     ensures { λ r. ⌜ Inserted (rowFacing back (now (file .entry)) (now (places .entry)) n) n (now (half .entry)) c (now (half .exit)) ⌝ }
 {
     let bytes = placed_rows::bytes_of(file, places, n, c);
-    let m = descend(file, places, n, half, NONE, 0, bytes, back);
+    let m = longest(file, places, n, half, bytes, back);
     let p = m.row;
     let k = m.len;
     if k < bytes.len() {
         let next = placed_rows::first(placed_rows::beyond(bytes, k, back), back);
         let h = bucket(p, next);
+        marks::mark(half, MARKS, child_key(p, next));
         push(half, h, c, word_of(c, p, bytes.len()));
     }
 }
 
-// Every bucket is emptied.
+// Every bucket and every mark is emptied.
 pub fn clear(half: &mut [u32])
-    requires { ⌜ 8192 ≤ length (now half) ⌝ }
+    requires { ⌜ 7680 ≤ length (now half) ⌝ }
     ensures { λ r. ⌜ now (half .exit) ≡ cleared (now (half .entry)) ⌝ }
 {
     let mut i = 0;
-    while i < 4096 {
+    while i < 3584 {
         half[i] = NONE;
         i += 1;
     }

@@ -1,4 +1,4 @@
-// Core lookups in a loop, exported for the benchmark alone: a public call checks the tables, which takes far longer than one lookup.
+// Core calls in a loop, exported for the benchmark alone: a public call checks the tables, which takes far longer than one of them.
 ghost use mathlib.Core.Path.{_≡_};
 ghost use Prim.Native.Nat.{_≤_, _<_};
 ghost use lib.ListN.{length};
@@ -6,6 +6,10 @@ ghost use Rattle.placed_rows.specs.Rows.{row, Placed};
 ghost use Rattle.search_area.specs.Answers.{Found};
 ghost use Rattle.token_pair.specs.Pair.{PairReady};
 ghost use Rattle.measured.specs.Measured.{LookupReady, JoinReady, PairsReady, PairNumber, Finds, Joins, Pairs};
+
+mod pieces;
+mod typed;
+
 use placed_rows::wide;
 
 // The row with the bytes of row x.

@@ -1,3 +1,4 @@
 pub mod Prefixes
 pub mod Trying
+pub mod Marking
 pub mod Filling

@@ -145,7 +145,7 @@ module _ (file places lefts rights area : List ℕ) (n w : ℕ) (L : Looking fil
         r-below = let k = L .row-below in omega arith
 
         checked : (b : Bool) → PairIs file places lefts rights area n w c r b → arePartsOf (rows file) known w c ≡ b
-        checked b p = rw (lt-ltb c w cb, rest-is r-below, lt-ltb r w rb) (sym (p .passes-is D tells (L .rows-found .distinct) (L .rows-found .finds)))
+        checked b p = rw (lt-ltb c w cb, rest-is r-below, lt-ltb r w rb) (sym (p .passes-is D tells (L .rows-found .distinct) (L .rows-found .finds) (L .known .pairs-marked)))
 
         pub fails-check : (b : Bool) → PairIs file places lefts rights area n w c r b → b ≡ false → Fails file w c none
         fails-check b p e = record { is-none = refl; not-parts = checked b p ∙ e }

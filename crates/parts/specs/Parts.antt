@@ -15,7 +15,8 @@ use Rattle.placed_rows.specs.Texts.{Begins}
 use Rattle.placed_rows.specs.Longest.{Below, Prefix}
 use Rattle.tables.specs.Ready.{PlacesReady}
 use Rattle.search_area.specs.Area.{Finds}
-use Rattle.token_pair.specs.Pair.{Distinct}
+use Rattle.token_pair.specs.Pair.{Distinct, PairsMarked}
+use Rattle.parts.specs.Marking.{AreaKept}
 
 abbrev pub isSome : Option Parts → Bool
 isSome Option.none = false
@@ -56,16 +57,17 @@ pub record RowParts (file : List ℕ) (w l r : ℕ) : Type 0 where
   pub are : partsIn (rows file) w ≡ some (record { left = l; right = r })
   pub longer : 1 < length (getD (rows file) w []) → Joined file w l r
 
--- the tables have the parts of the rows below w
-pub record PartsKnown (file lefts rights : List ℕ) (w : ℕ) : Type 0 where
+-- the tables have the parts of the rows below w, and the search area has them marked
+pub record PartsKnown (file lefts rights area : List ℕ) (w : ℕ) : Type 0 where
   pub left-room : w ≤ length lefts
   pub right-room : w ≤ length rights
   pub parts : (c : ℕ) → c < w → RowParts file c (getD lefts c 0) (getD rights c 0)
+  pub pairs-marked : PairsMarked lefts rights area w
 
 -- row w is looked at, the parts of the rows before it being known
 pub record Looking (file places lefts rights area : List ℕ) (n w : ℕ) : Type 0 where
   pub rows-found : RowsFound file places area n
-  pub known : PartsKnown file lefts rights w
+  pub known : PartsKnown file lefts rights area w
   pub row-below : w < n
 
 -- row c begins row w
@@ -103,10 +105,11 @@ pub record PartsFit (file places lefts rights prefixes area : List ℕ) (n : ℕ
   pub right-room : n ≤ length rights
 
 -- r is the lowest row without parts, and the tables have the parts of the rows below it; their entries from n on are as before
-pub record PartsFilled (file lefts rights lefts' rights' : List ℕ) (n r : ℕ) : Type 0 where
+pub record PartsFilled (file lefts rights area lefts' rights' area' : List ℕ) (n r : ℕ) : Type 0 where
   pub answer : r ≡ firstWithout (rows file)
-  pub known : PartsKnown file lefts' rights' r
+  pub known : PartsKnown file lefts' rights' area' r
   pub lefts-length : length lefts' ≡ length lefts
   pub rights-length : length rights' ≡ length rights
   pub lefts-beyond : drop n lefts' ≡ drop n lefts
   pub rights-beyond : drop n rights' ≡ drop n rights
+  pub area-kept : AreaKept area area'

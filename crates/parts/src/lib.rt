@@ -1,9 +1,15 @@
 // The parts of the rows, found row by row over the rows before.
 ghost use mathlib.Core.Path.{_≡_};
-ghost use Prim.Native.Nat.{_<_};
+ghost use Prim.Native.Nat.{_≤_, _<_};
+ghost use lib.ListN.{length};
 ghost use Rattle.parts.specs.Parts.{Looking, Beginner, RightPart, PrefixesFound, PartsFound, PartsFit, PartsFilled};
+ghost use Rattle.parts.specs.Marking.{PairsEmptied, WriteFit, PartsWritten};
 use placed_rows::NONE;
 use placed_rows::wide;
+use token_pair::PAIRS;
+
+// The end of the marks of pairs in the search area.
+const PAIRS_END: usize = 16384;
 
 // The left and the right part of a row, or NONE twice.
 struct TokenParts {
@@ -77,19 +83,53 @@ fn find_parts(
     }
 }
 
-// Writes the parts of the rows into the tables, and says which row is the lowest without parts, n where all have parts.
+// The marks of pairs become NONE: no pair is marked.
+fn empty_pairs(area: &mut [u32])
+    requires { ⌜ 16384 ≤ length (now area) ⌝ }
+    ensures { λ _. ⌜ PairsEmptied (now (area .entry)) (now (area .exit)) ⌝ }
+{
+    let mut i = PAIRS;
+    while i < PAIRS_END {
+        area[i] = NONE;
+        i += 1;
+    }
+}
+
+// Writes the parts of row w into the tables, and marks the two where the row is a longer one.
+fn write_parts(
+    lefts: &mut [u32],
+    rights: &mut [u32],
+    area: &mut [u32],
+    w: usize,
+    left: u32,
+    right: u32,
+)
+    requires { ⌜ WriteFit (now lefts) (now rights) (now area) w ⌝ }
+    ensures { λ _. ⌜ PartsWritten (now (lefts .entry)) (now (rights .entry)) (now (area .entry)) w left right (now (lefts .exit)) (now (rights .exit)) (now (area .exit)) ⌝ }
+{
+    lefts[w] = left;
+    rights[w] = right;
+    if w <= wide(left) {
+        return;
+    }
+    marks::mark(area, PAIRS, token_pair::pair_key(left, right));
+}
+
+// Writes the parts of the rows into the tables, marks the pairs of the longer ones in the search area, and says which row is the
+// lowest without parts, n where all have parts.
 pub fn fill_parts(
     file: &[u8],
     places: &[u32],
     lefts: &mut [u32],
     rights: &mut [u32],
     prefixes: &[u32],
-    area: &[u32],
+    area: &mut [u32],
     n: usize,
 ) -> usize
     requires { ⌜ PartsFit (now file) (now places) (now lefts) (now rights) (now prefixes) (now area) n ⌝ }
-    ensures { λ r. ⌜ PartsFilled (now (file .entry)) (now (lefts .entry)) (now (rights .entry)) (now (lefts .exit)) (now (rights .exit)) n r ⌝ }
+    ensures { λ r. ⌜ PartsFilled (now (file .entry)) (now (lefts .entry)) (now (rights .entry)) (now (area .entry)) (now (lefts .exit)) (now (rights .exit)) (now (area .exit)) n r ⌝ }
 {
+    empty_pairs(area);
     let mut w = 0;
     while w < n {
         let parts = find_parts(file, places, lefts, rights, prefixes, area, n, w as u32);
@@ -97,8 +137,7 @@ pub fn fill_parts(
         if left == NONE {
             return w;
         }
-        lefts[w] = left;
-        rights[w] = parts.right;
+        write_parts(lefts, rights, area, w, left, parts.right);
         w += 1;
     }
     n

@@ -2,8 +2,8 @@
 use mathlib.Core.Path.{_≡_, refl, sym, ap, _∙_}
 use mathlib.Core.List.{List, _++_}
 use mathlib.Core.Logic.{_⊎_, inl, inr, ⊎-elim}
-use mathlib.Core.Bool.{Bool, true}
-use Prim.Native.Nat.{ℕ, _+_, _-_, _≤_, _<_}
+use mathlib.Core.Bool.{Bool, true, false}
+use Prim.Native.Nat.{ℕ, suc, _+_, _-_, _≤_, _<_}
 use native.Mathlib.Nat.{eq-or-lt-of-le}
 use native.Mathlib.Omega.{arith}
 use lib.ListN.{length, set, length-set, length-drop, getD, drop}
@@ -14,10 +14,11 @@ use Rattle.placed_rows.specs.Longest.{Longest}
 use Rattle.placed_rows.proofs.Beginning.{both, same-length}
 use Rattle.placed_rows.proofs.Facing.{rowFacing-length, ends-begins, begins-ends}
 use Rattle.forest.specs.Words.{In, Indexed}
-use Rattle.forest.specs.Lookups.{ChildIs}
+use lib.Dec.{eqb}
+use borrow.Author.Tests.{ne-eqb, eqb-false}
+use Rattle.forest.specs.Lookups.{Step, ChildIs}
 use Rattle.forest.proofs.NoChild.{filled}
 use Rattle.placed_rows.proofs.Chains.{other}
-use Rattle.forest.proofs.Searching.{search-empty}
 use Rattle.forest.proofs.Descending.{Descending, descend-start, here, turn, descend-stop}
 use Rattle.search_area.specs.Area.{backHalf, allRows, Finds}
 use Rattle.search_area.specs.Endings.{Listed, EndsText, EndsAt}
@@ -139,8 +140,39 @@ module _ (R : ℕ → List ℕ) (n : ℕ) (half t out : List ℕ) where
               (λ d u. (u .0, u .1 .0)) (λ d u. (u .0, (u .1, L .longest d (u .0) (u .1)))) (E .listed S I);
         }
 
-    pub collect-end : length t ≤ size → Done
-    collect-end h = collect-stop (drop size t) none 0 (search-empty R n half best size (drop size t) 0 (omega (arith, length-drop size t))) refl refl
+-- m rows are in out', and row, of len bytes, comes next, or none is left
+pub record Pending (R : ℕ → List ℕ) (n : ℕ) (half t out : List ℕ) (row len : ℕ) (out' : List ℕ) (m : ℕ) : Type 0 where
+  pub best : ℕ
+  pub size : ℕ
+  pub collected : Collected R n half t out best size out' m
+  pub child : ChildIs R n half best size (drop size t) row len
+
+-- how many turns are left at most
+abbrev pub turns : ℕ → ℕ → ℕ → ℕ
+turns total row len = elim (eqb row none) [ true ↦ 0 | false ↦ suc total - len ]
+
+module _ (R : ℕ → List ℕ) (n : ℕ) (half t out : List ℕ) where
+  pub pending-start : (row len : ℕ) → ChildIs R n half none 0 t row len → Pending R n half t out row len out 0
+  pending-start row len h = record { best = none; size = 0; collected = collect-start R n half t out; child = h }
+
+  module _ (row len : ℕ) (out' : List ℕ) (m : ℕ) (P : Pending R n half t out row len out' m) (O : 64 ≤ length out) (ne : row ≡ none → ⊥) where
+    pub pending-more : More R n half t out (P .best) (P .size) out' m row len
+    pending-more = collect-next R n half t out (P .best) (P .size) out' m (P .collected) (drop (P .size) t) row len O (P .child) refl ne
+
+    pub pending-next : (rest : List ℕ) (r l : ℕ) → ChildIs R n half row len rest r l → rest ≡ drop len t → Pending R n half t out r l (set out' m row) (m + 1)
+    pending-next rest r l h e = record { best = row; size = len; collected = pending-more .next; child = rw e at h }
+
+    pub fewer-turns : (rest : List ℕ) (r l : ℕ) → ChildIs R n half row len rest r l → rest ≡ drop len t → turns (length t) r l < turns (length t) row len
+    fewer-turns rest r l h e =
+        let here : turns (length t) row len ≡ suc (length t) - len = rw (ne-eqb row none ne, turns) in
+        let small = pending-more .next .small in
+        go (eqb r none) refl here small
+      where
+        go : (b : Bool) → eqb r none ≡ b → turns (length t) row len ≡ suc (length t) - len → len ≤ length t → turns (length t) r l < turns (length t) row len
+        go true z here small = rw (here, z, turns) (omega arith)
+        go false z here small =
+            let s : Step n len (length rest) r l = ⊎-elim (λ x. absurd (eqb-false r none z x)) (λ x. x) (h .bound) in
+            rw (here, z, turns) (omega (arith, s .longer, s .fits, ap length e, length-drop len t))
 
 -- the contract
 module _ (file places : List ℕ) (n : ℕ) (area text out : List ℕ) where
@@ -158,7 +190,7 @@ module _ (file places : List ℕ) (n : ℕ) (area text out : List ℕ) where
   unfolding rowFacing
   row-ends d b = begins-ends (row file places n d) text b
 
-  pub ends-at : (best size : ℕ) (out' : List ℕ) (m : ℕ) (E : Collected R n half (facing true text) out best size out' m) → Done R n half (facing true text) out best size out' m E
+  ends-at : (best size : ℕ) (out' : List ℕ) (m : ℕ) (E : Collected R n half (facing true text) out best size out' m) → Done R n half (facing true text) out best size out' m E
       → EndsAt file places n area text out out' m
   unfolding Finds
   ends-at best size out' m E D = record {
@@ -169,3 +201,7 @@ module _ (file places : List ℕ) (n : ℕ) (area text out : List ℕ) where
     listed = λ F. listed-same (sizes R) (λ d. length (row file places n d)) (λ d. In (allRows n) d × Begins (R d) (facing true text)) (EndsText file places n text) m out'
         (rowFacing-length true file places n) (λ d u. (in-below n d (u .0), row-ends d (u .1))) (λ d u. (below-in n d (u .0), ends-row d (u .1))) (D .rows (allRows n) (F .back));
   }
+
+  pub pending-stop : (r l : ℕ) (out' : List ℕ) (m : ℕ) → Pending R n half (facing true text) out r l out' m → r ≡ none → EndsAt file places n area text out out' m
+  pending-stop r l out' m P z = ends-at (P .best) (P .size) out' m (P .collected)
+      (collect-stop R n half (facing true text) out (P .best) (P .size) out' m (P .collected) (drop (P .size) (facing true text)) r l (P .child) refl z)

@@ -8,10 +8,10 @@ use Rattle.placed_rows.specs.Texts.{rowFacing}
 use Rattle.forest.specs.Words.{Indexed}
 
 abbrev pub frontHalf : List ℕ → List ℕ
-frontHalf area = take 8192 area
+frontHalf area = take 7680 area
 
 abbrev pub backHalf : List ℕ → List ℕ
-backHalf area = take 8192 (drop 8192 area)
+backHalf area = take 7680 (drop 7680 area)
 
 -- both halves list the rows of S
 pub record Holds (file places : List ℕ) (n : ℕ) (area : List ℕ) (S : ℕ → Bool) : Type 0 where

@@ -19,61 +19,61 @@ use Rattle.search_fill.specs.Steps.{halves, emptied, RowIn}
 
 -- the area after its front half was written, and then its back half
 abbrev once : List ℕ → List ℕ → List ℕ
-once front area = front ++ drop 8192 area
+once front area = front ++ drop 7680 area
 
 abbrev twice : List ℕ → List ℕ → List ℕ → List ℕ
-twice front back area = take 8192 (once front area) ++ (back ++ drop 8192 (drop 8192 (once front area)))
+twice front back area = take 7680 (once front area) ++ (back ++ drop 7680 (drop 7680 (once front area)))
 
-module _ (area front back : List ℕ) (A : 16384 ≤ length area) (f : length front ≡ 8192) where
+module _ (area front back : List ℕ) (A : 16384 ≤ length area) (f : length front ≡ 7680) where
   back-kept : backHalf (once front area) ≡ backHalf area
-  back-kept = ap (take 8192) (drop-at front (drop 8192 area) 8192 f)
+  back-kept = ap (take 7680) (drop-at front (drop 7680 area) 7680 f)
 
   twice-is : twice front back area ≡ halves front back area
   unfolding halves
   twice-is =
-      let e : drop 8192 (drop 8192 (once front area)) ≡ drop 16384 area = ap (drop 8192) (drop-at front (drop 8192 area) 8192 f) ∙ drop-drop 8192 8192 area in
-      λ i. take-at front (drop 8192 area) 8192 f i ++ (back ++ e i)
+      let e : drop 7680 (drop 7680 (once front area)) ≡ drop 15360 area = ap (drop 7680) (drop-at front (drop 7680 area) 7680 f) ∙ drop-drop 7680 7680 area in
+      λ i. take-at front (drop 7680 area) 7680 f i ++ (back ++ e i)
 
-  module _ (b : length back ≡ 8192) where
+  module _ (b : length back ≡ 7680) where
     pub halves-length : length (halves front back area) ≡ length area
     unfolding halves
-    halves-length = length-append front (back ++ drop 16384 area) ∙ omega (arith, length-append back (drop 16384 area), length-drop 16384 area)
+    halves-length = length-append front (back ++ drop 15360 area) ∙ omega (arith, length-append back (drop 15360 area), length-drop 15360 area)
 
-    pub halves-beyond : drop 16384 (halves front back area) ≡ drop 16384 area
+    pub halves-beyond : drop 15360 (halves front back area) ≡ drop 15360 area
     unfolding halves
     halves-beyond =
-        sym (drop-drop 8192 8192 (front ++ (back ++ drop 16384 area))) ∙ ap (drop 8192) (drop-at front (back ++ drop 16384 area) 8192 f)
-        ∙ drop-at back (drop 16384 area) 8192 b
+        sym (drop-drop 7680 7680 (front ++ (back ++ drop 15360 area))) ∙ ap (drop 7680) (drop-at front (back ++ drop 15360 area) 7680 f)
+        ∙ drop-at back (drop 15360 area) 7680 b
 
     pub halves-front : frontHalf (halves front back area) ≡ front
     unfolding halves
-    halves-front = take-at front (back ++ drop 16384 area) 8192 f
+    halves-front = take-at front (back ++ drop 15360 area) 7680 f
 
     pub halves-back : backHalf (halves front back area) ≡ back
     unfolding halves
-    halves-back = ap (take 8192) (drop-at front (back ++ drop 16384 area) 8192 f) ∙ take-at back (drop 16384 area) 8192 b
+    halves-back = ap (take 7680) (drop-at front (back ++ drop 15360 area) 7680 f) ∙ take-at back (drop 15360 area) 7680 b
 
 -- both emptied
 pub twice-emptied : (area front back : List ℕ) → 16384 ≤ length area → front ≡ cleared (frontHalf area) → back ≡ cleared (backHalf (once front area)) → twice front back area ≡ emptied area
 unfolding emptied
 twice-emptied area front back A e g =
     let l = front-length area A in
-    let f : length front ≡ 8192 = ap length e ∙ length-cleared (frontHalf area) (omega arith) ∙ l in
+    let f : length front ≡ 7680 = ap length e ∙ length-cleared (frontHalf area) (omega arith) ∙ l in
     let h : back ≡ cleared (backHalf area) = g ∙ ap cleared (back-kept area front back A f) in
     twice-is area front back A f ∙ (λ i. halves (e i) (h i) area)
 
 module _ (area : List ℕ) (A : 16384 ≤ length area) where
-  f-length : length (cleared (frontHalf area)) ≡ 8192
+  f-length : length (cleared (frontHalf area)) ≡ 7680
   f-length = let l = front-length area A in length-cleared (frontHalf area) (omega arith) ∙ l
 
-  b-length : length (cleared (backHalf area)) ≡ 8192
+  b-length : length (cleared (backHalf area)) ≡ 7680
   b-length = let l = back-length area A in length-cleared (backHalf area) (omega arith) ∙ l
 
   pub emptied-length : length (emptied area) ≡ length area
   unfolding emptied
   emptied-length = halves-length area (cleared (frontHalf area)) (cleared (backHalf area)) A f-length b-length
 
-  pub emptied-beyond : drop 16384 (emptied area) ≡ drop 16384 area
+  pub emptied-beyond : drop 15360 (emptied area) ≡ drop 15360 area
   unfolding emptied
   emptied-beyond = halves-beyond area (cleared (frontHalf area)) (cleared (backHalf area)) A f-length b-length
 
@@ -105,9 +105,9 @@ module _ (file places : List ℕ) (n : ℕ) where
   pub twice-inserted : (area front back : List ℕ) (c : ℕ) → 16384 ≤ length area → Inserted (rowFacing false file places n) n (frontHalf area) c front
       → Inserted (rowFacing true file places n) n (backHalf (once front area)) c back → RowIn file places n area c (twice front back area)
   twice-inserted area front back c A i j =
-      let f : length front ≡ 8192 = i .kept ∙ front-length area A in
+      let f : length front ≡ 7680 = i .kept ∙ front-length area A in
       let k : Inserted (rowFacing true file places n) n (backHalf area) c back = rw (back-kept area front back A f) at j in
-      let b : length back ≡ 8192 = k .kept ∙ back-length area A in
+      let b : length back ≡ 7680 = k .kept ∙ back-length area A in
       rw (twice-is area front back A f) (record {
         area-length = halves-length area front back A f b;
         area-beyond = halves-beyond area front back A f b;

@@ -12,8 +12,8 @@ fn empty(area: &mut [u32])
     requires { ⌜ 16384 ≤ length (now area) ⌝ }
     ensures { λ r. ⌜ now (area .exit) ≡ emptied (now (area .entry)) ⌝ }
 {
-    forest::clear(&mut area[..8192]);
-    forest::clear(&mut area[8192..16384]);
+    forest::clear(&mut area[..7680]);
+    forest::clear(&mut area[7680..15360]);
 }
 
 // Row c goes into both halves.
@@ -22,8 +22,8 @@ fn add_row(file: &[u8], places: &[u32], n: usize, area: &mut [u32], c: usize)
     requires { ⌜ (16384 ≤ length (now area)) × ((c < n) × (length (row (now file) (now places) n c) ≤ 64)) ⌝ }
     ensures { λ r. ⌜ RowIn (now (file .entry)) (now (places .entry)) n (now (area .entry)) c (now (area .exit)) ⌝ }
 {
-    forest::insert(file, places, n, &mut area[..8192], c, false);
-    forest::insert(file, places, n, &mut area[8192..16384], c, true);
+    forest::insert(file, places, n, &mut area[..7680], c, false);
+    forest::insert(file, places, n, &mut area[7680..15360], c, true);
 }
 
 // All rows of len bytes go in.

@@ -6,7 +6,6 @@ use Prim.Native.Nat.{ℕ, _+_, _-_, _*_, _/_, _%_, _≤_, _<_}
 use native.Mathlib.Omega.{arith}
 use lib.ListN.{length, length-drop, getD, drop, drop-of-length-le}
 use borrow.Author.Tests.{lt-ltb, le-ltb}
-use Rattle.placed_rows.specs.Rows.{row}
 use Rattle.theory.specs.Lists.{firstOr}
 use Rattle.theory.specs.Dictionary.{Dictionary, KnownText, none}
 use Rattle.theory.specs.Shortest.{shortest}
@@ -32,17 +31,6 @@ module _ (work : List ℕ) (m j : ℕ) where
       (λ l. let z = b .few j h l in omega (arith, count-inside l))
       (λ l. omega (arith, count-beyond l))
       (lt-or-ge j m)
-
--- the count behind row c, whose length is l
-module _ (file places : List ℕ) (n : ℕ) (work : List ℕ) (m i c w l : ℕ) (is : w ≡ c) (e : l ≡ length (row file places n w)) where
-  length-is : l ≡ length (row file places n c)
-  length-is = e ∙ ap (λ (x : ℕ). length (row file places n x)) is
-
-  pub behind-inside : i + l < m → getD work (i + l) 0 / 4096 ≡ countFrom work m (i + length (row file places n c))
-  behind-inside h = count-inside work m (i + l) h ∙ ap (λ (x : ℕ). countFrom work m (i + x)) length-is
-
-  pub behind-beyond : m ≤ i + l → 0 ≡ countFrom work m (i + length (row file places n c))
-  behind-beyond h = count-beyond work m (i + l) h ∙ ap (λ (x : ℕ). countFrom work m (i + x)) length-is
 
 module _ (D : Dictionary) (A : Lawful D) (few : D .count ≤ 4096) where
   -- an entry gives the count of codes and the chosen row

@@ -1,4 +1,5 @@
 pub mod Counts
+pub mod Keeping
 pub mod Trying
 pub mod Placing
 pub mod Writing

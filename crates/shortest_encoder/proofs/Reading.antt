@@ -107,11 +107,11 @@ module _ (file places : List ℕ) (n : ℕ) (text work out₀ : List ℕ) where
             }
 
 -- all entries are filled in, and then the codes are read
-pub minimal : (file places prefixes area : List ℕ) (n : ℕ) (text out out' work work' : List ℕ) (r : ℕ) → Entries file places prefixes area n text work work'
-    → CodesRead file places n text work' out out' r → MinimalIs file places prefixes area n text out out' work work' r
-minimal file places prefixes area n text out out' work work' r E O = record {
+pub minimal : (file places area : List ℕ) (n : ℕ) (text out out' work work' : List ℕ) (r : ℕ) → Entries file places area n text work work'
+    → CodesRead file places n text work' out out' r → MinimalIs file places area n text out out' work work' r
+minimal file places area n text out out' work work' r E O = record {
   written = O .written;
   work-size = E .size;
   work-beyond = E .beyond;
-  built = λ lefts rights B. O .built lefts rights prefixes area B (E .built lefts rights B);
+  built = λ lefts rights prefixes B. O .built lefts rights prefixes area B (E .built lefts rights prefixes B);
 }

@@ -4,7 +4,7 @@ use mathlib.Core.List.{List, _++_}
 use Prim.Native.Nat.{ℕ, _≤_, _<_}
 use lib.ListN.{length, getD, drop}
 use Rattle.theory.specs.Shortest.{shortest, greedy}
-use Rattle.tables.specs.Ready.{PlacesReady, PrefixesReady}
+use Rattle.tables.specs.Ready.{PlacesReady}
 use Rattle.built.specs.Built.{dictionaryOf, Built}
 
 -- output beyond the answer is unchanged: r codes, each below n, stand at the front of the output
@@ -20,23 +20,22 @@ pub record Codes (w out out' : List ℕ) (r : ℕ) : Type 0 where
   pub codes : out' ≡ w ++ drop r out
 
 -- tables in form, a text, and a work buffer with one number per text byte
-pub record EntriesReady (file places prefixes area : List ℕ) (n : ℕ) (text work : List ℕ) : Type 0 where
+pub record EntriesReady (file places area : List ℕ) (n : ℕ) (text work : List ℕ) : Type 0 where
   pub places-ready : PlacesReady file places n
-  pub prefixes-ready : PrefixesReady file prefixes n
   pub area-room : 16384 ≤ length area
   pub few : length text ≤ 4096
   pub room : length text ≤ length work
 
 -- `encode_minimal`: fewest codes; among those the longest first row, then the longest second, and so on
-pub record MinimalReady (file places prefixes area : List ℕ) (n : ℕ) (text out work : List ℕ) : Type 0 where
-  pub ready : EntriesReady file places prefixes area n text work
+pub record MinimalReady (file places area : List ℕ) (n : ℕ) (text out work : List ℕ) : Type 0 where
+  pub ready : EntriesReady file places area n text work
   pub out-room : length text ≤ length out
 
-pub record MinimalIs (file places prefixes area : List ℕ) (n : ℕ) (text out out' work work' : List ℕ) (r : ℕ) : Type 0 where
+pub record MinimalIs (file places area : List ℕ) (n : ℕ) (text out out' work work' : List ℕ) (r : ℕ) : Type 0 where
   pub written : Written n text out out' r
   pub work-size : length work' ≡ length work
   pub work-beyond : drop (length text) work' ≡ drop (length text) work
-  pub built : (lefts rights : List ℕ) → Built file places lefts rights prefixes area n → Codes (shortest (dictionaryOf file) text) out out' r
+  pub built : (lefts rights prefixes : List ℕ) → Built file places lefts rights prefixes area n → Codes (shortest (dictionaryOf file) text) out out' r
 
 -- `encode_greedy`: the longest row at each place
 pub record GreedyReady (file places area : List ℕ) (n : ℕ) (text out : List ℕ) : Type 0 where

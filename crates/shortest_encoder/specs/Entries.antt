@@ -30,23 +30,23 @@ abbrev pub AreEntries : Dictionary → List ℕ → List ℕ → ℕ → Type 0
 AreEntries D text work i = (j : ℕ) → i ≤ j → j < length text → getD work j 0 ≡ entry D (drop j text)
 
 -- the entry r of place i is found from those of the later places
-pub record EntryReady (file places prefixes area : List ℕ) (n : ℕ) (text work : List ℕ) (i : ℕ) : Type 0 where
-  pub ready : EntriesReady file places prefixes area n text work
+pub record EntryReady (file places area : List ℕ) (n : ℕ) (text work : List ℕ) (i : ℕ) : Type 0 where
+  pub ready : EntriesReady file places area n text work
   pub inside : i < length text
   pub later : Bounded n work (length text) (i + 1)
 
-pub record EntryIs (file places prefixes area : List ℕ) (n : ℕ) (text work : List ℕ) (i r : ℕ) : Type 0 where
+pub record EntryIs (file places area : List ℕ) (n : ℕ) (text work : List ℕ) (i r : ℕ) : Type 0 where
   pub row : r % 4096 < n
   pub few : r / 4096 ≤ length text - i
-  pub built : (lefts rights : List ℕ) → Built file places lefts rights prefixes area n → AreEntries (dictionaryOf file) text work (i + 1)
+  pub built : (lefts rights prefixes : List ℕ) → Built file places lefts rights prefixes area n → AreEntries (dictionaryOf file) text work (i + 1)
       → r ≡ entry (dictionaryOf file) (drop i text)
 
 -- the work buffer has the entries of all places, and is unchanged beyond them
-pub record Entries (file places prefixes area : List ℕ) (n : ℕ) (text work work' : List ℕ) : Type 0 where
+pub record Entries (file places area : List ℕ) (n : ℕ) (text work work' : List ℕ) : Type 0 where
   pub size : length work' ≡ length work
   pub beyond : drop (length text) work' ≡ drop (length text) work
   pub bounded : Bounded n work' (length text) 0
-  pub built : (lefts rights : List ℕ) → Built file places lefts rights prefixes area n → AreEntries (dictionaryOf file) text work' 0
+  pub built : (lefts rights prefixes : List ℕ) → Built file places lefts rights prefixes area n → AreEntries (dictionaryOf file) text work' 0
 
 -- the codes are read from the entries of all places
 pub record CodesReady (file places : List ℕ) (n : ℕ) (text work out : List ℕ) : Type 0 where

@@ -1,2 +1,4 @@
+pub mod Keys
 pub mod Listing
+pub mod Joins
 pub mod Turns

@@ -2,14 +2,16 @@
 use mathlib.Core.Path.{_≡_}
 use mathlib.Core.List.{List, [], _++_}
 use mathlib.Core.Bool.{Bool, true, _&&_}
-use Prim.Native.Nat.{ℕ, _≤_, _<_}
+use Prim.Native.Nat.{ℕ, _+_, _*_, _/_, _%_, _≤_, _<_}
 use lib.ListN.{length, getD}
 use lib.Dec.{ltb, eqb}
 use Rattle.theory.specs.Dictionary.{Dictionary}
-use Rattle.theory.specs.PairCheck.{passes}
+use Rattle.theory.specs.PairCheck.{listedBelow, passes}
 use Rattle.phrase_file.specs.Form.{rows}
+use Rattle.placed_rows.specs.Rows.{Placed}
 use Rattle.tables.specs.Ready.{PlacesReady, PartsReady}
 use Rattle.search_area.specs.Area.{Finds}
+use Rattle.marks.specs.Marks.{marked}
 
 -- rows differ from each other
 abbrev pub Distinct : List ℕ → Type 0
@@ -22,6 +24,14 @@ pub record Tells (D : Dictionary) (file lefts rights : List ℕ) (q : ℕ) : Typ
   pub left : (c : ℕ) → c < q → getD lefts c 0 ≡ D .left c
   pub right : (c : ℕ) → c < q → getD rights c 0 ≡ D .right c
   pub joined : (c : ℕ) → c < q → D .long c ≡ true → D .bytes (D .left c) ++ D .bytes (D .right c) ≡ D .bytes c
+
+-- the key of two codes: the upper 15 of the lower 32 bits of a product
+unfoldable pub pairKey : ℕ → ℕ → ℕ
+pairKey u v = (u % 4096 * 4096 + v % 4096) * 2654435769 % 4294967296 / 131072
+
+-- the marks of pairs, from number 15,360 of the search area on: the two parts of every longer row below q are marked
+abbrev pub PairsMarked : List ℕ → List ℕ → List ℕ → ℕ → Type 0
+PairsMarked lefts rights area q = (c : ℕ) → c < q → getD lefts c 0 < c → marked area 15360 (pairKey (getD lefts c 0) (getD rights c 0)) ≡ true
 
 -- what may be read: the rows, the parts of the rows below q, and two such rows
 pub record PairReady (file places lefts rights area : List ℕ) (n q u v : ℕ) : Type 0 where
@@ -36,6 +46,19 @@ pub record PairReady (file places lefts rights area : List ℕ) (n q u v : ℕ) 
 unfoldable pub listedIn : List ℕ → List ℕ → ℕ → ℕ → ℕ → ℕ → Bool
 listedIn lefts rights c m u v = ltb c m && (eqb (getD lefts c 0) u && eqb (getD rights c 0) v)
 
+-- what may be read for one join: the rows, the parts of the rows below m, and two rows
+pub record JoinReady (file places lefts rights area : List ℕ) (n m u v : ℕ) : Type 0 where
+  pub placed : Placed file places n
+  pub area-room : 16384 ≤ length area
+  pub left-room : m ≤ length lefts
+  pub right-room : m ≤ length rights
+  pub left-below : u < n
+  pub right-below : v < n
+
+-- the answer is whether a row below m has u and v as its parts
+pub record JoinIs (file places lefts rights area : List ℕ) (n m u v : ℕ) (r : Bool) : Type 0 where
+  pub listed-is : (q : ℕ) → m ≤ q → PairReady file places lefts rights area n q u v → (D : Dictionary) → Tells D file lefts rights q → Distinct file → Finds file places n area → PairsMarked lefts rights area q → r ≡ listedBelow D m u v
+
 -- the answer is that of the pair check over the rows below q
 pub record PairIs (file places lefts rights area : List ℕ) (n q u v : ℕ) (r : Bool) : Type 0 where
-  pub passes-is : (D : Dictionary) → Tells D file lefts rights q → Distinct file → Finds file places n area → r ≡ passes D q u v
+  pub passes-is : (D : Dictionary) → Tells D file lefts rights q → Distinct file → Finds file places n area → PairsMarked lefts rights area q → r ≡ passes D q u v

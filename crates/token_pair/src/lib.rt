@@ -2,7 +2,18 @@
 ghost use mathlib.Core.Path.{_≡_};
 ghost use Prim.Native.Nat.{_≤_};
 ghost use lib.ListN.{length};
-ghost use Rattle.token_pair.specs.Pair.{listedIn, PairReady, PairIs};
+ghost use Rattle.token_pair.specs.Pair.{pairKey, listedIn, JoinReady, JoinIs, PairReady, PairIs};
+
+// The number of the search area at which the marks of pairs begin.
+pub const PAIRS: usize = 15360;
+
+// The key of two codes among the marks of pairs.
+pub fn pair_key(left: u32, right: u32) -> usize
+    ensures { λ r. ⌜ r ≡ pairKey left right ⌝ }
+{
+    let pair = (left % 4096) as u64 * 4096 + (right % 4096) as u64;
+    (pair * 2654435769 % 4294967296 / 131072) as usize
+}
 
 // Whether row c comes before the join last undone and has the two as its parts.
 fn is_listed_before(
@@ -26,6 +37,28 @@ fn is_listed_before(
     rights[i] == right
 }
 
+// Whether a row that comes before the join last undone has the two as its parts. Two that are not marked are the parts of none.
+fn is_joined_before(
+    file: &[u8],
+    places: &[u32],
+    lefts: &[u32],
+    rights: &[u32],
+    area: &[u32],
+    n: usize,
+    bound: u32,
+    left: u32,
+    right: u32,
+) -> bool
+    requires { ⌜ JoinReady (now file) (now places) (now lefts) (now rights) (now area) n bound left right ⌝ }
+    ensures { λ r. ⌜ JoinIs (now (file .entry)) (now (places .entry)) (now (lefts .entry)) (now (rights .entry)) (now (area .entry)) n bound left right r ⌝ }
+{
+    if marks::is_marked(area, PAIRS, pair_key(left, right)) {
+        let combined = search_area::join(file, places, n, area, left, right);
+        return is_listed_before(lefts, rights, combined, bound, left, right);
+    }
+    false
+}
+
 // The pair check over the rows below `limit`, for two of them.
 pub fn is_valid_pair_below(
     file: &[u8],
@@ -45,8 +78,7 @@ pub fn is_valid_pair_below(
     let mut right = token2;
     let mut bound = limit;
     loop {
-        let combined = search_area::join(file, places, n, area, left, right);
-        if is_listed_before(lefts, rights, combined, bound, left, right) {
+        if is_joined_before(file, places, lefts, rights, area, n, bound, left, right) {
             return false;
         }
         // Undo the higher one, or the other where that is a single byte.

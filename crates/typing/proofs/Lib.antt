@@ -7,3 +7,4 @@ pub mod Refusals
 pub mod Agreeing
 pub mod Calling
 pub mod Texting
+pub mod Piecing

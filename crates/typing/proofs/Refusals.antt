@@ -34,6 +34,13 @@ pub counted-in : (form : Form) (len size : ℕ) (fine : Bool) → tokenCountRefu
 unfolding tokenCountRefusal
 counted-in form len size fine e = any-in form len size fine (when-none (anyOut form len size fine) OutOfForm none e .0)
 
+-- the tables are in form
+pub tables-in : (form : Form) (len size : ℕ) (fine : Bool) (typed : List ℕ) → extendRefusal form len size fine typed ≡ none → isOut form ≡ false
+unfolding extendRefusal
+tables-in form len size fine typed e =
+    let short = when-none (over typed) TooLong (when (anyOut form len size fine) OutOfForm (when (full len size typed) (Full len) none)) e in
+    or-false (isOut form) (headOut len size || not fine) (when-none (anyOut form len size fine) OutOfForm (when (full len size typed) (Full len) none) (short .1) .0) .0
+
 -- the head is in form, and the new length is within the slice and 4,096
 pub record Extends (len size : ℕ) (typed : List ℕ) : Type 0 where
   pub head-in : headOut len size ≡ false

@@ -4,23 +4,24 @@ use mathlib.Core.Option.{Option, none, some}
 use mathlib.Core.List.{List, [], _∷_, _++_}
 use mathlib.Core.Bool.{Bool, true, false}
 use mathlib.Core.Logic.{_⊎_, ⊎-elim}
-use Prim.Native.Nat.{ℕ, suc, _+_, _<_, _≤_, min}
+use Prim.Native.Nat.{ℕ, suc, _+_, _-_, _<_, _≤_, min}
 use native.Mathlib.Nat.{eq-or-lt-of-le, lt-irrefl}
 use native.Mathlib.Numerals.{add-one}
 use native.Mathlib.Omega.{arith}
 use lib.ListN.{length, getD, set, take, drop, length-set, length-map, length-take, List·getD-map}
-use lib.Seq.{getD-take, getD-set-same, getD-set-other, drop-set-lt, drop-drop, ext-getD, take-suc, take-take, length-take-le}
+use lib.Seq.{getD-take, getD-set-same, getD-set-other, drop-set-lt, drop-drop, ext-getD, drop-cons, take-add, length-take-le}
 use borrow.Author.Tests.{le-ltb}
 use Rattle.theory.specs.Dictionary.{Dictionary, Octets}
 use Rattle.theory.specs.Merge.{encode}
 use Rattle.theory.specs.Typing.{Side, Entry, inOrder, endCode, inForm, codeAt, countAt, entryAt}
-use Rattle.theory.proofs.Lists.{lt-or-ge}
+use Rattle.theory.proofs.Lists.{lt-or-ge, true-false}
 use Rattle.theory.proofs.Encode.{encode-spells}
 use Rattle.theory.proofs.Decoding.{codes-fit}
 use Rattle.theory.proofs.Sides.{length-inOrder}
-use Rattle.theory.proofs.Typing.{trues-form}
+use Rattle.theory.proofs.Typing.{trues-form, entryAt-take}
 use Rattle.causes.specs.declared.Cause.{Cause}
 use Rattle.tables.specs.InForm.{formOf}
+use Rattle.answers.specs.Refusals.{isOut}
 use Rattle.tables.specs.declared.Form.{Form}
 use Rattle.tables.specs.declared.Answer.{Answer}
 use Rattle.tables.specs.declared.Answer.the-variants.{Number}
@@ -36,7 +37,7 @@ use Rattle.typing.specs.Steps.{endAfter}
 use Rattle.typing.specs.Calls.{Extended, TokenCounted}
 use Rattle.typing.specs.Text.{TextTyped}
 use Rattle.typing.proofs.Ending.{head-in, end-refused, end-given}
-use Rattle.typing.proofs.Refusals.{extends}
+use Rattle.typing.proofs.Refusals.{Extends, extends, tables-in}
 use Rattle.typing.proofs.Agreeing.{form-at}
 
 -- the first i records are those of the text
@@ -66,13 +67,10 @@ module _ (D : Dictionary) (side : Side) (text : List ℕ) (i len : ℕ) (states 
       long : length (take len (bytesOf states)) ≡ i
       long = length-take-le len (bytesOf states) (omega (arith, S .len-is, S .few, slice, length-map states (λ (s : State). s .byte))) ∙ S .len-is
 
--- a record rests on the bytes up to it
-entry-up-to : (D : Dictionary) (side : Side) (text : List ℕ) (i : ℕ) → entryAt D side (take (suc i) text) i ≡ entryAt D side text i
-unfolding entryAt codeAt countAt
-entry-up-to D side text i =
-    let byte : getD (take (suc i) text) i 0 ≡ getD text i 0 = getD-take (suc i) text i 0 (omega arith) in
-    let bytes : take (suc i) (take (suc i) text) ≡ take (suc i) text = take-take (suc i) (suc i) text (omega arith) in
-    λ j. record { byte = byte j; code = endCode side (encode D (inOrder side (bytes j))); count = length (encode D (inOrder side (bytes j))) }
+-- fewer records
+pub fewer : (D : Dictionary) (side : Side) (text : List ℕ) (i len : ℕ) (states : List State) → Standing D side text i len states → (k len' : ℕ) → k ≤ i → len' ≡ k
+    → Standing D side text k len' states
+fewer D side text i len states S k len' l e = record { len-is = e; few = omega (arith, S .few, l); records = λ j h. S .records j (omega (arith, h, l)) }
 
 module _ (file placeTable lefts rights prefixes area : List ℕ) (n : ℕ) (B : Built file placeTable lefts rights prefixes area n) (side : Side) (text : List ℕ) where
   abbrev D : Dictionary
@@ -82,7 +80,7 @@ module _ (file placeTable lefts rights prefixes area : List ℕ) (n : ℕ) (B : 
   form-is = formOf file placeTable lefts rights prefixes area
 
   -- a count is no more than the bytes
-  count-small : (i : ℕ) → countAt D side text i ≤ suc i
+  pub count-small : (i : ℕ) → countAt D side text i ≤ suc i
   unfolding countAt
   count-small i =
       let t = inOrder side (take (suc i) text) in
@@ -90,7 +88,7 @@ module _ (file placeTable lefts rights prefixes area : List ℕ) (n : ℕ) (B : 
       omega (arith, codes-fit D L (encode D t), ap length (encode-spells D L t), length-inOrder side (take (suc i) text), length-take (suc i) text)
 
   module _ (i len : ℕ) (states : List State) (octets : Octets text) (S : Standing D side text i len states) (slice : length states ≡ 4096) (text-fits : i ≤ length text) where
-    head-is : headOut len (length states) ≡ false
+    pub head-is : headOut len (length states) ≡ false
     head-is = head-in len (length states) (omega (arith, S .len-is, S .few)) (omega (arith, S .len-is, S .few))
 
     -- true records are in form
@@ -104,58 +102,63 @@ module _ (file placeTable lefts rights prefixes area : List ℕ) (n : ℕ) (B : 
         ∙ trues-form D side (lawful-is file placeTable lefts rights prefixes area n B) text (known file placeTable lefts rights prefixes area n B text octets) (codesOf states) (countsOf states)
         i text-fits (λ k l. record { code = code-at D side text i len states S k l; count = count-at D side text i len states S k l }) j below)
 
-    -- where there is a record left, a push is not refused
-    passes : (b : ℕ) (fine : Bool) → FormOf file placeTable lefts rights prefixes area side len (length states) (bytesOf states) (codesOf states) (countsOf states) fine
-        → i < 4096 → extendRefusal form-is len (length states) fine (b ∷ []) ≡ none
+    -- where there are records left, push and extend are not refused
+    pub passes : (typed : List ℕ) (fine : Bool) → FormOf file placeTable lefts rights prefixes area side len (length states) (bytesOf states) (codesOf states) (countsOf states) fine
+        → i + length typed ≤ 4096 → extendRefusal form-is len (length states) fine typed ≡ none
     unfolding extendRefusal
-    passes b fine form h = rw (
+    passes typed fine form h = rw (
+      le-ltb 4096 (length typed) (omega (arith, h)),
       in-form file placeTable lefts rights prefixes area n B,
       fine-is fine form,
       head-is,
-      le-ltb (length states) (len + length (b ∷ [])) (omega (arith, S .len-is)),
-      le-ltb 4096 (len + length (b ∷ [])) (omega (arith, S .len-is)),
+      le-ltb (length states) (len + length typed) (omega (arith, S .len-is, h)),
+      le-ltb 4096 (len + length typed) (omega (arith, S .len-is, h)),
     )
 
     -- `token_count` gives the count of the text so far
-    count-is : (k : ℕ) → i ≡ suc k → (r : Answer) → TokenCounted file placeTable lefts rights prefixes area side len states r → r ≡ Number (countAt D side text k)
+    pub count-is : (k : ℕ) → i ≡ suc k → (r : Answer) → TokenCounted file placeTable lefts rights prefixes area side len states r → r ≡ Number (countAt D side text k)
     unfolding tokenCountRefusal
     count-is k e r c =
         c .answer ∙ rw (in-form file placeTable lefts rights prefixes area n B, fine-is (c .fine) (c .form), head-is, S .len-is ∙ e)
         (ap Number (count-at D side text i len states S k (omega (arith, e))))
 
-    -- one record more
-    pushed : (b : ℕ) (r : Answer) (len' : ℕ) (states' : List State) (X : Extended file placeTable lefts rights prefixes area side len states (b ∷ []) r len' states')
-        → b ≡ getD text i 0 → i < length text → i < 4096 → Standing D side text (i + 1) len' states'
-    pushed b r len' states' X is within room = record {
-      len-is = X .longer free ∙ ap (λ (k : ℕ). k + 1) (S .len-is);
-      few = omega arith;
-      records = λ j h. ⊎-elim here (below j) (eq-or-lt-of-le (let low : j ≤ i = omega (arith, h) in low));
+    -- the records of the next bytes of the text
+    pub longer : (typed : List ℕ) (r : Answer) (len' : ℕ) (states' : List State) (X : Extended file placeTable lefts rights prefixes area side len states typed r len' states')
+        → typed ≡ take (length typed) (drop i text) → i + length typed ≤ 4096 → Standing D side text (i + length typed) len' states'
+    longer typed r len' states' X is room = record {
+      len-is = X .longer free ∙ ap (λ (k : ℕ). k + length typed) (S .len-is);
+      few = room;
+      records = λ j h. ⊎-elim (below j) (λ (l : i ≤ j). new j l h) (lt-or-ge j i);
     }
       where
-        free : extendRefusal form-is len (length states) (X .fine) (b ∷ []) ≡ none
-        free = passes b (X .fine) (X .form) room
+        free : extendRefusal form-is len (length states) (X .fine) typed ≡ none
+        free = passes typed (X .fine) (X .form) room
 
-        texts : take len (bytesOf states) ++ (b ∷ []) ≡ take (suc i) text
-        texts = (λ j. text-is D side text i len states S slice text-fits j ++ (is j ∷ [])) ∙ sym (take-suc text i 0 within)
+        texts : take len (bytesOf states) ++ typed ≡ take (i + length typed) text
+        texts = (λ j. text-is D side text i len states S slice text-fits j ++ is j) ∙ sym (take-add i (length typed) text)
 
-        last : entryOf (getD states' i noState) ≡ entryAt D side text i
-        last = let at : len + 0 ≡ i = omega (arith, S .len-is) in
-            subst (λ (k : ℕ). entryOf (getD states' k noState) ≡ entryAt D side (take len (bytesOf states) ++ (b ∷ [])) k) at (X .built n B free 0 (omega arith))
-            ∙ ap (λ (t : List ℕ). entryAt D side t i) texts
-            ∙ entry-up-to D side text i
-
-        here : {j : ℕ} → j ≡ i → entryOf (getD states' j noState) ≡ entryAt D side text j
-        here e = subst (λ (k : ℕ). entryOf (getD states' k noState) ≡ entryAt D side text k) (sym e) last
+        new : (j : ℕ) → i ≤ j → j < i + length typed → entryOf (getD states' j noState) ≡ entryAt D side text j
+        new j l h = let at : len + (j - i) ≡ j = omega (arith, S .len-is, l) in
+            subst (λ (k : ℕ). entryOf (getD states' k noState) ≡ entryAt D side (take len (bytesOf states) ++ typed) k) at (X .built n B free (j - i) (omega (arith, l, h)))
+            ∙ ap (λ (t : List ℕ). entryAt D side t j) texts
+            ∙ entryAt-take D side text (i + length typed) j h
 
         below : (j : ℕ) → j < i → entryOf (getD states' j noState) ≡ entryAt D side text j
         below j h =
             let l : j < len = omega (arith, h, S .len-is) in
             ap entryOf (sym (getD-take len states' j noState l) ∙ ap (λ (x : List State). getD x j noState) (X .before-kept) ∙ getD-take len states j noState l) ∙ S .records j h
 
+-- the next byte alone
+pub next-byte : (text : List ℕ) (i : ℕ) → i < length text → getD text i 0 ∷ [] ≡ take 1 (drop i text)
+next-byte text i h = sym (ap (take 1) (drop-cons text i 0 h))
+
 -- what holds after i bytes
 pub record Typing (file placeTable lefts rights prefixes area : List ℕ) (side : Side) (text counts₀ : List ℕ) (i len : ℕ) (states : List State) (counts : List ℕ) : Type 0 where
   pub text-fits : i ≤ length text
   pub counts-fit : i ≤ length counts₀
+  pub few : i ≤ 4096
+  pub len-is : len ≡ i
+  pub out-of-form : isOut (formOf file placeTable lefts rights prefixes area) ≡ true → i ≡ 0
   pub size-kept : length counts ≡ length counts₀
   pub slice : length states ≡ 4096
   pub beyond-kept : drop i counts ≡ drop i counts₀
@@ -167,6 +170,9 @@ module _ (file placeTable lefts rights prefixes area : List ℕ) (side : Side) (
   begins len states e slice = record {
     text-fits = omega arith;
     counts-fit = omega arith;
+    few = omega arith;
+    len-is = e;
+    out-of-form = λ o. refl;
     size-kept = refl;
     slice = slice;
     beyond-kept = refl;
@@ -178,7 +184,7 @@ module _ (file placeTable lefts rights prefixes area : List ℕ) (side : Side) (
     -- the end, where the number of bytes is what it has to be
     pub ends : ((n : ℕ) → Built file placeTable lefts rights prefixes area n → i ≡ min (length text) (min (length counts₀) 4096))
         → TextTyped file placeTable lefts rights prefixes area side text counts₀ i counts
-    ends e = record { text-fits = T .text-fits; counts-fit = T .counts-fit; size-kept = T .size-kept; beyond-kept = T .beyond-kept; typed = e; counted = T .counted }
+    ends e = record { at-most = omega (arith, T); out-of-form = T .out-of-form; size-kept = T .size-kept; beyond-kept = T .beyond-kept; typed = e; counted = T .counted }
 
     -- the text, or the room for counts, is at its end
     pub ends-all : (length text ≤ i) ⊎ (length counts₀ ≤ i) → TextTyped file placeTable lefts rights prefixes area side text counts₀ i counts
@@ -195,7 +201,7 @@ module _ (file placeTable lefts rights prefixes area : List ℕ) (side : Side) (
           ⊎-elim (λ (h : i < 4096). absurd (let
           more : endAfter r i ≡ len + 1 = ap (λ (a : Answer). endAfter a i) (X .answer)
           ∙ end-given refusal (len + 1) i
-          (passes file placeTable lefts rights prefixes area n B side text i len states octets S (T .slice) (T .text-fits) b (X .fine) (X .form) h)
+          (passes file placeTable lefts rights prefixes area n B side text i len states octets S (T .slice) (T .text-fits) (b ∷ []) (X .fine) (X .form) (omega (arith, h)))
           in omega (arith, e, more, S .len-is))) (λ h. omega (arith, T, S .few, h)) (lt-or-ge i 4096))
 
       -- one byte more, where the push was not refused
@@ -204,6 +210,9 @@ module _ (file placeTable lefts rights prefixes area : List ℕ) (side : Side) (
       more is within room new q counted v entry = record {
         text-fits = omega arith;
         counts-fit = omega arith;
+        few = omega (arith, fits .most-fits, T .len-is);
+        len-is = X .longer free ∙ ap (λ (k : ℕ). k + 1) (T .len-is);
+        out-of-form = λ o. absurd (true-false (sym o ∙ tables-in (formOf file placeTable lefts rights prefixes area) len (length states) (X .fine) (b ∷ []) free));
         size-kept = length-set counts i v ∙ T .size-kept;
         slice = X .size-kept ∙ T .slice;
         beyond-kept = drop-set-lt (i + 1) counts i v (omega arith) ∙ sym (drop-drop 1 i counts) ∙ ap (drop 1) (T .beyond-kept) ∙ drop-drop 1 i counts₀;
@@ -220,11 +229,13 @@ module _ (file placeTable lefts rights prefixes area : List ℕ) (side : Side) (
             go none e = e
             go (some cause) e = absurd (new (ap (λ (a : Answer). endAfter a i) (X .answer) ∙ end-refused refusal (len + 1) i cause e))
 
+          fits : Extends len (length states) (b ∷ [])
+          fits = extends (formOf file placeTable lefts rights prefixes area) len (length states) (X .fine) (b ∷ []) free
+
           stands : (n : ℕ) → Built file placeTable lefts rights prefixes area n → Standing (dictionaryOf file) side text (i + 1) len' states'
           stands n B =
-              let S = T .standing n B in
-              let fits = extends (formOf file placeTable lefts rights prefixes area) len (length states) (X .fine) (b ∷ []) free in
-              pushed file placeTable lefts rights prefixes area n B side text i len states octets S (T .slice) (T .text-fits) b r len' states' X is within (omega (arith, fits .most-fits, S .len-is))
+              let one : b ∷ [] ≡ take 1 (drop i text) = (λ j. is j ∷ []) ∙ next-byte text i within in
+              longer file placeTable lefts rights prefixes area n B side text i len states octets (T .standing n B) (T .slice) (T .text-fits) (b ∷ []) r len' states' X one (omega (arith, fits .most-fits, T .len-is))
 
           last : (n : ℕ) → Built file placeTable lefts rights prefixes area n → v ≡ countAt (dictionaryOf file) side text i
           last n B =

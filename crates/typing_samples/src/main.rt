@@ -10,6 +10,7 @@ use said::say_four;
 use said::say_tally;
 use typing_core::Side;
 use typing_texts::by_bytes;
+use typing_texts::by_lengths;
 use typing_texts::by_pieces;
 
 // P4 and P5.
@@ -48,7 +49,7 @@ fn say_typed(
     say_four(b"P5 prepend d, c, b, a:", &counts);
 }
 
-// A text of 4,096 letters, typed byte by byte and in pieces.
+// A text of 4,096 letters, typed byte by byte and in pieces. Pieces of 1, 7, 64 and 1,000 bytes give 4,096 + 586 + 64 + 5 = 4,751 counts.
 fn type_long(
     file: &[u8],
     places: &[u32],
@@ -90,6 +91,66 @@ fn type_long(
             &text,
             &mirror,
             4096,
+        ),
+    );
+    say_tally(
+        b"append in pieces of 1, 7, 64 and 1000:",
+        by_lengths(
+            Side::Append,
+            file,
+            places,
+            lefts,
+            rights,
+            prefixes,
+            area,
+            &text,
+            &mirror,
+            0,
+        ),
+    );
+    say_tally(
+        b"prepend in pieces of 1, 7, 64 and 1000:",
+        by_lengths(
+            Side::Prepend,
+            file,
+            places,
+            lefts,
+            rights,
+            prefixes,
+            area,
+            &text,
+            &mirror,
+            0,
+        ),
+    );
+    say_tally(
+        b"append in pieces of 1, 7, 64 and 1000, 5 bytes taken back:",
+        by_lengths(
+            Side::Append,
+            file,
+            places,
+            lefts,
+            rights,
+            prefixes,
+            area,
+            &text,
+            &mirror,
+            5,
+        ),
+    );
+    say_tally(
+        b"prepend in pieces of 1, 7, 64 and 1000, 5 bytes taken back:",
+        by_lengths(
+            Side::Prepend,
+            file,
+            places,
+            lefts,
+            rights,
+            prefixes,
+            area,
+            &text,
+            &mirror,
+            5,
         ),
     );
     say_tally(

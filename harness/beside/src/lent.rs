@@ -1,9 +1,10 @@
 //! Buffers to lend, with numbers before and behind each that a call must not touch.
 use crate::random::Random;
+use ours::typing::State;
 
 const EDGE: usize = 16;
 
-/// What a buffer holds: bytes, or numbers of 32 bits.
+/// What a buffer holds: bytes, numbers of 32 bits, or typing records.
 pub trait Entry: Copy + PartialEq {
     fn cut(word: u64) -> Self;
 }
@@ -17,6 +18,12 @@ impl Entry for u8 {
 impl Entry for u32 {
     fn cut(word: u64) -> Self {
         word as u32
+    }
+}
+
+impl Entry for State {
+    fn cut(word: u64) -> Self {
+        State { byte: word as u8, code: (word >> 8) as u32 % 300, count: (word >> 40) as u32 }
     }
 }
 

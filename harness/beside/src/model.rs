@@ -198,7 +198,7 @@ impl Phrases {
         (1..=self.longest.min(text.len())).rev().filter_map(|size| self.numbers.get(&text[..size]).copied())
     }
 
-    fn size(&self, code: u32) -> usize {
+    pub fn size(&self, code: u32) -> usize {
         self.rows[code as usize].len()
     }
 
@@ -231,7 +231,8 @@ impl Phrases {
         codes
     }
 
-    fn pass(&mut self, left: u32, right: u32) -> bool {
+    /// Whether two rows pass, asked once.
+    pub fn pass(&mut self, left: u32, right: u32) -> bool {
         let (rows, numbers) = (&self.rows, &self.numbers);
         *self
             .passed

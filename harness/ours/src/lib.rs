@@ -1,6 +1,28 @@
 //! The proved library behind safe functions. Nothing checks these declarations against its source: they follow
-//! crates/exports/src/lib.rt and crates/measured/src/lib.rt, where a slice is a pointer and a length in elements.
-pub mod measured;
+//! crates/exports/src and crates/measured/src, where a slice is a pointer and a length in elements.
+
+/// Declares exported functions with the file, the tables and the area in front of their own arguments.
+macro_rules! declare {
+    ($($name:ident($($argument:ident: $kind:ty),*);)*) => {
+        extern "C" {
+            $(pub fn $name(
+                file: *const u8,
+                file_len: usize,
+                places: *const u32,
+                places_len: usize,
+                lefts: *const u32,
+                lefts_len: usize,
+                rights: *const u32,
+                rights_len: usize,
+                prefixes: *const u32,
+                prefixes_len: usize,
+                area: *const u32,
+                area_len: usize
+                $(, $argument: $kind)*
+            ) -> u64;)*
+        }
+    };
+}
 
 mod ffi {
     extern "C" {
@@ -19,29 +41,6 @@ mod ffi {
             area: *mut u32,
             area_len: usize,
         ) -> u64;
-    }
-
-    /// Declares exported functions with the file, the tables and the area in front of their own arguments.
-    macro_rules! declare {
-        ($($name:ident($($argument:ident: $kind:ty),*);)*) => {
-            extern "C" {
-                $(pub fn $name(
-                    file: *const u8,
-                    file_len: usize,
-                    places: *const u32,
-                    places_len: usize,
-                    lefts: *const u32,
-                    lefts_len: usize,
-                    rights: *const u32,
-                    rights_len: usize,
-                    prefixes: *const u32,
-                    prefixes_len: usize,
-                    area: *const u32,
-                    area_len: usize
-                    $(, $argument: $kind)*
-                ) -> u64;)*
-            }
-        };
     }
 
     /// Declares encoders: text, output, work buffer.
@@ -166,6 +165,10 @@ macro_rules! over {
         })
     }};
 }
+
+pub mod intervals;
+pub mod measured;
+pub mod typing;
 
 /// Encoders: the codes to the front of `out`, and how many.
 macro_rules! encoders {

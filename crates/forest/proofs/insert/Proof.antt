@@ -4,6 +4,7 @@ use native.Mathlib.Omega.{arith}
 use lib.ListN.{length}
 use borrow.Author.Needs.{needs}
 use Rattle.placed_rows.proofs.Facing.{facing-length, rowFacing-is, beyond-length, beyond-first}
+use Rattle.forest.proofs.Marking.{length-marked}
 use Rattle.forest.proofs.Inserting.{insert-none, insert-done}
 use Rattle.forest.proofs.insert.Statement.{statement}
 use Rattle.forest.proofs.insert.Tie as tie
@@ -11,8 +12,8 @@ use Rattle.forest.proofs.insert.Tie as tie
 bytes-of-requires : tie.Need-bytes-of-requires
 bytes-of-requires c κs = search needs
 
-descend-requires : tie.Need-descend-requires
-descend-requires c κs = search needs
+longest-requires : tie.Need-longest-requires
+longest-requires c κs = search needs
 
 beyond-requires : tie.Need-beyond-requires
 beyond-requires c κs = search needs
@@ -20,36 +21,46 @@ beyond-requires c κs = search needs
 first-requires : tie.Need-first-requires
 first-requires c κs =
     let bytes = c .before .before .before .before .bytes-of .result .now in
-    omega (arith, beyond-length (c .before .before .before .before .before .before .before .before .args .back) bytes (c .beyond .result .now) (c .before .before .descend .result .len) (c .beyond .ensures), c .before .if1 .taken)
+    omega (arith, beyond-length (c .before .before .before .before .before .before .before .before .args .back) bytes (c .beyond .result .now) (c .before .before .longest .result .len) (c .beyond .ensures), c .before .if1 .taken)
 
 bucket-requires : tie.Need-bucket-requires
 bucket-requires c κs = search needs
 
+child-key-requires : tie.Need-child-key-requires
+child-key-requires c κs = search needs
+
+mark-requires : tie.Need-mark-requires
+mark-requires c κs = (omega arith, omega (arith, c .child-key .ensures .below, c .before .before .before .before .before .before .before .before .before .before .before .before .pre .1 .0))
+
 word-of-requires : tie.Need-word-of-requires
 word-of-requires c κs =
-    let s = c .before .before .before .before .before .before .before .before .before .before .before in
+    let s = c .before .before .before .before .before .before .before .before .before .before .before .before .before .before .before .before in
     let f = s .pre .0 .few in
-    (omega (arith, s .pre .1 .1 .0), (omega (arith, c .before .before .before .before .if1 .taken), omega (arith, ap length (c .before .before .before .before .before .before .before .bytes-of .ensures), s .pre .1 .1 .1)))
+    (omega (arith, s .pre .1 .1 .0), (omega (arith, c .before .before .before .before .before .before .before .before .before .if1 .taken), omega (arith, ap length (c .before .before .before .before .before .before .before .before .before .before .before .before .bytes-of .ensures), s .pre .1 .1 .1)))
 
 push-requires : tie.Need-push-requires
-push-requires c κs = search needs
+push-requires c κs =
+    let s = c .before .before .before .before .before .before .before .before .before .before .before .before .before .before .before .before .before in
+    (omega (arith, s .pre .0 .few, s .pre .1 .1 .0), (c .before .before .before .before .before .before .before .bucket .ensures .below, omega (arith, s .pre .1 .0, length-marked _ _ _ (c .before .before .before .before .mark .ensures))))
 
 same-length : tie.Need-same-length
 same-length c = search needs
 
 returns : tie.Need-returns
 returns c =
-    let s = c .before .before .before .before .before .before .before .before .before .before .before .before .before .before .before in
+    let s = c .before .before .before .before .before .before .before .before .before .before .before .before .before .before .before .before .before .before .before .before in
     let back = s .args .back in
-    let bytes = c .before .before .before .before .before .before .before .before .before .before .before .bytes-of in
-    let m = c .before .before .before .before .before .before .before .before .before .descend in
-    let u = c .before .before .before .before .before .before .before .beyond in
-    let f = c .before .before .before .before .before .before .first in
+    let bytes = c .before .before .before .before .before .before .before .before .before .before .before .before .before .before .before .before .bytes-of in
+    let m = c .before .before .before .before .before .before .before .before .before .before .before .before .before .before .longest in
+    let u = c .before .before .before .before .before .before .before .before .before .before .before .before .beyond in
+    let f = c .before .before .before .before .before .before .before .before .before .before .before .first in
     rw (c .before .before .push .ensures)
-    (insert-done _ _ _ _ _ _ _ (s .pre .1 .0) (rowFacing-is back _ _ _ _ _ (bytes .ensures)) (m .ensures) (f .result) _ _ _
+    (insert-done _ _ _ _ _ _ _ (s .pre .1 .0) (rowFacing-is back _ _ _ _ _ (bytes .ensures)) (m .ensures) _ _ (f .result) _ _ _
+    (c .before .before .before .before .before .before .before .mark .ensures)
+    (c .before .before .before .before .before .before .before .before .child-key .ensures .is)
     (f .ensures .is ∙ beyond-first back (bytes .result .now) (u .result .now) (m .result .len) (u .ensures))
     (f .ensures .below)
-    (c .before .before .before .before .before .bucket .ensures .is)
+    (c .before .before .before .before .before .before .before .before .before .before .bucket .ensures .is)
     (c .before .before .before .word-of .ensures)
     (sym (facing-length back (bytes .result .now))))
 
@@ -61,17 +72,19 @@ returns-2 c =
     let s = c .before .before .before .before .before .before .before in
     let back = s .args .back in
     let bytes = c .before .before .before .bytes-of in
-    insert-none _ _ _ _ _ _ _ (s .pre .1 .0) (rowFacing-is back _ _ _ _ _ (bytes .ensures)) (c .before .descend .ensures) (omega (arith, c .if1 .left, facing-length back (bytes .result .now)))
+    insert-none _ _ _ _ _ _ _ (s .pre .1 .0) (rowFacing-is back _ _ _ _ _ (bytes .ensures)) (c .before .longest .ensures) (omega (arith, c .if1 .left, facing-length back (bytes .result .now)))
 
 pub insert-spec : {M : Type 1} → statement M
 insert-spec =
     tie.close
     (tie.spec
     bytes-of-requires
-    descend-requires
+    longest-requires
     beyond-requires
     first-requires
     bucket-requires
+    child-key-requires
+    mark-requires
     word-of-requires
     push-requires
     same-length

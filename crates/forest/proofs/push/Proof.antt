@@ -27,7 +27,7 @@ mul-half-3 : tie.Need-mul-half-3
 mul-half-3 c = search needs
 
 slice-write-half-2 : tie.Need-slice-write-half-2
-slice-write-half-2 c = let a = c .before .args in omega (arith, length-set (a .half .now) (4096 + a .c) (getD (a .half .now) (a .h) 0))
+slice-write-half-2 c = let a = c .before .args in omega (arith, length-set (a .half .now) (3584 + a .c) (getD (a .half .now) (a .h) 0))
 
 same-length : tie.Need-same-length
 same-length c = search needs

@@ -1,89 +1,115 @@
--- The loop's invariant is `Trying`: the best row so far, and the rows left to try decide which is chosen. Each row to try is shorter than the one before. Assumes nothing.
-use Prim.Native.Nat.{_+_, _<_, _≤_}
-use mathlib.Core.Logic.{inl, inr, ⊎-elim}
+-- The loop's invariant is `Trying`: the best entry by the rows up to the one that is reached. Each row is longer than the one before. Assumes nothing.
+use mathlib.Core.Path.{refl}
+use Prim.Native.Nat.{_+_, _-_, _<_, _≤_}
+use mathlib.Core.Logic.{inl, inr}
 use lib.ListN.{length}
 use native.Mathlib.Omega.{arith}
-use Rattle.placed_rows.specs.Rows.{row}
-use Rattle.shortest_encoder.proofs.Trying.{Bytes, Trying, found, nothing, trying-start, fewest-fits, trying-ends, next-row, trying-less, trying-more}
-use borrow.Author.Needs.{needs}
+use Rattle.shortest_encoder.proofs.Trying.{Bytes, Trying, trying-start, trying-none, trying-first, trying-ends, trying-stops, within, next-inside, next-few, trying-more}
 use Rattle.shortest_encoder.proofs.best_at.Statement.{statement}
 use Rattle.shortest_encoder.proofs.best_at.Tie as tie
 
 abbrev Inv-loop : tie.InvT-loop
-Inv-loop file places prefixes area n text i work best₀ fewest₀ row₀ best fewest next =
-    Trying file places prefixes area n text work i best fewest next
+Inv-loop file places area n text i work row₀ len₀ best₀ row len best = Trying file places area n text work i best row len
 
 abbrev μ-loop : tie.MeasureT-loop
-μ-loop file places prefixes area n text i work best₀ fewest₀ row₀ best fewest next =
-    length (row file places n next)
+μ-loop file places area n text i work row₀ len₀ best₀ row len best = length text - len
 
--- what the loop's places know
-text-bytes : (c : tie.After-shared-slice-known6 Inv-loop μ-loop) → Bytes (c .before .before .before .before .before .before .args .text .now)
-text-bytes c k = omega (arith, c .before .shared-slice-known5 .given k)
+text-bytes : (c : tie.After-shared-slice-known5 Inv-loop μ-loop) → Bytes (c .before .before .before .before .before .args .text .now)
+text-bytes c k = omega (arith, c .before .shared-slice-known4 .given k)
 
-first-row : (c : tie.Else1 Inv-loop μ-loop) → c .before .before .next-match .result .row < c .before .before .before .before .before .before .before .before .before .args .n
-first-row c = found _ _ _ _ _ _ _ (c .before .before .next-match .ensures) (c .if1 .left) .0
+-- what is known of the first row
+first-below : (c : tie.Else1 Inv-loop μ-loop) → c .before .before .first-match .result .row < 4096
+first-below c =
+    let t = trying-start _ _ _ _ _ _ _ (c .before .before .before .before .before .before .before .before .pre) (text-bytes (c .before .before .before)) in
+    omega (arith, within _ _ _ _ _ _ _ _ _ _ t _ _ (c .before .before .first-match .ensures) (c .if1 .left) .below, t .ready .ready .places-ready .placed .few)
 
-this-row : (c : tie.In-loop Inv-loop μ-loop) → c .before .loop .row < c .before .before .before .before .before .before .before .before .before .before .before .before .before .before .args .n
-this-row c = next-row _ _ _ _ _ _ _ _ _ _ _ (c .before .loop .inv) (c .loop-test .taken)
+first-inside : (c : tie.Else1 Inv-loop μ-loop) → c .before .before .before .before .before .before .before .before .args .i + c .before .before .first-match .result .len ≤ length (c .before .before .before .before .before .before .before .before .args .text .now)
+first-inside c =
+    let t = trying-start _ _ _ _ _ _ _ (c .before .before .before .before .before .before .before .before .pre) (text-bytes (c .before .before .before)) in
+    next-inside _ _ _ _ _ _ _ _ _ _ t _ _ (c .before .before .first-match .ensures) (c .if1 .left)
 
-fits : (c : tie.After-loop Inv-loop μ-loop) → c .before .loop .fewest + 1 ≤ 4096
-fits c = let t = c .before .loop .inv in omega (arith, fewest-fits _ _ _ _ _ _ _ _ _ _ _ t, t .ready .ready .few)
+first-few : (c : tie.After-codes-behind Inv-loop μ-loop) → c .codes-behind .result + 1 ≤ 4096
+first-few c =
+    let t = trying-start _ _ _ _ _ _ _ (c .before .before .before .before .before .before .before .before .before .pre) (text-bytes (c .before .before .before .before)) in
+    omega (arith, c .codes-behind .ensures, next-few _ _ _ _ _ _ _ _ _ _ t _ _ (c .before .before .before .first-match .ensures) (c .before .if1 .left), t .ready .ready .few)
 
-next-match-requires : tie.Need-next-match-requires Inv-loop μ-loop
-next-match-requires c κs = let r = c .before .before .before .before .before .before .pre in (r .ready .places-ready .placed, (r .ready .area-room, omega (arith, r .inside)))
+-- and of a longer one
+longer : (c : tie.Else2 Inv-loop μ-loop) → c .before .before .before .before .loop .len < c .before .before .longer-match .result .len
+longer c = within _ _ _ _ _ _ _ _ _ _ (c .before .before .before .before .loop .inv) _ _ (c .before .before .longer-match .ensures) (c .if2 .left) .longer
+
+below : (c : tie.Else2 Inv-loop μ-loop) → c .before .before .longer-match .result .row < 4096
+below c = let t = c .before .before .before .before .loop .inv in omega (arith, within _ _ _ _ _ _ _ _ _ _ t _ _ (c .before .before .longer-match .ensures) (c .if2 .left) .below, t .ready .ready .places-ready .placed .few)
+
+inside : (c : tie.Else2 Inv-loop μ-loop) → c .before .before .before .before .before .before .before .before .before .before .before .before .before .before .args .i + c .before .before .longer-match .result .len ≤ length (c .before .before .before .before .before .before .before .before .before .before .before .before .before .before .args .text .now)
+inside c = next-inside _ _ _ _ _ _ _ _ _ _ (c .before .before .before .before .loop .inv) _ _ (c .before .before .longer-match .ensures) (c .if2 .left)
+
+few : (c : tie.After-codes-behind2 Inv-loop μ-loop) → c .codes-behind2 .result + 1 ≤ 4096
+few c =
+    let t = c .before .before .before .before .before .loop .inv in
+    omega (arith, c .codes-behind2 .ensures, next-few _ _ _ _ _ _ _ _ _ _ t _ _ (c .before .before .before .longer-match .ensures) (c .before .if2 .left), t .ready .ready .few)
+
+first-match-requires : tie.Need-first-match-requires Inv-loop μ-loop
+first-match-requires c κs = let r = c .before .before .before .before .before .pre in (r .ready .places-ready .placed, (r .ready .area-room, omega (arith, r .inside)))
 
 returns : tie.Need-returns Inv-loop μ-loop
-returns c = nothing _ _ _ _ _ _ _ _ _ _ (c .before .before .before .before .before .before .before .before .before .pre) (text-bytes (c .before .before .before)) (c .before .before .next-match .ensures) (c .if1 .taken)
+returns c = trying-none _ _ _ _ _ _ _ (c .before .before .before .before .before .before .before .before .pre) (text-bytes (c .before .before .before)) _ _ (c .before .before .first-match .ensures) (c .if1 .taken)
+
+add-codes-behind : tie.Need-add-codes-behind Inv-loop μ-loop
+add-codes-behind c = omega (arith, first-inside c, c .before .before .before .before .before .before .before .before .pre .ready .few)
 
 codes-behind-requires : tie.Need-codes-behind-requires Inv-loop μ-loop
-codes-behind-requires c κs = let r = c .before .before .before .before .before .before .before .before .before .pre in (r .ready .places-ready .placed, (first-row c, (r .inside, r .ready .room)))
+codes-behind-requires c κs = c .before .before .before .before .before .before .before .before .pre .ready .room
 
-wide-requires : tie.Need-wide-requires Inv-loop μ-loop
-wide-requires c κs = search needs
+add-best : tie.Need-add-best Inv-loop μ-loop
+add-best c = omega (arith, first-few c)
 
-mul-row : tie.Need-mul-row Inv-loop μ-loop
-mul-row c = search needs
+mul-best : tie.Need-mul-best Inv-loop μ-loop
+mul-best c = omega (arith, first-few c)
 
-shared-slice-read-row : tie.Need-shared-slice-read-row Inv-loop μ-loop
-shared-slice-read-row c = omega (arith, first-row (c .before .before .before), c .before .wide .ensures .is, c .before .before .before .before .before .before .before .before .before .before .before .before .pre .ready .prefixes-ready .room)
+add-best-2 : tie.Need-add-best-2 Inv-loop μ-loop
+add-best-2 c = omega (arith, first-few c, first-below (c .before))
 
 loop-holds : tie.Need-loop-holds Inv-loop μ-loop
-loop-holds c = trying-start _ _ _ _ _ _ _ _ _ _ _ _ (c .before .before .before .before .before .before .before .before .before .before .before .before .pre) (text-bytes (c .before .before .before .before .before .before)) (c .before .before .before .before .before .next-match .ensures) (first-row (c .before .before .before)) (c .before .before .codes-behind .ensures) (c .before .wide .ensures .is)
+loop-holds c = trying-first _ _ _ _ _ _ _ (c .before .before .before .before .before .before .before .before .before .pre) (text-bytes (c .before .before .before .before)) _ _ (c .before .before .before .first-match .ensures) (c .before .if1 .left) _ (c .codes-behind .ensures)
 
-codes-behind-requires-2 : tie.Need-codes-behind-requires-2 Inv-loop μ-loop
-codes-behind-requires-2 c κs =
-    let t = c .before .loop .inv in
-    (t .ready .ready .places-ready .placed, (this-row c, (t .ready .inside, t .ready .ready .room)))
+add-loop : tie.Need-add-loop Inv-loop μ-loop
+add-loop c = let t = c .loop .inv in omega (arith, t .inside, t .ready .ready .few)
 
-wide-requires-2 : tie.Need-wide-requires-2 Inv-loop μ-loop
-wide-requires-2 c κs = search needs
-
-mul-row-2 : tie.Need-mul-row-2 Inv-loop μ-loop
-mul-row-2 c = search needs
-
-shared-slice-read-row-2 : tie.Need-shared-slice-read-row-2 Inv-loop μ-loop
-shared-slice-read-row-2 c = omega (arith, this-row (c .before .before .before .before), c .before .wide2 .ensures .is, c .before .before .before .before .before .loop .inv .ready .ready .prefixes-ready .room)
-
-loop-less : tie.Need-loop-less Inv-loop μ-loop
-loop-less c = trying-less _ _ _ _ _ _ _ _ _ _ _ (c .before .before .before .before .before .loop .inv) (c .before .before .before .before .loop-test .taken) _ (c .before .wide2 .ensures .is)
-
-loop-again : tie.Need-loop-again Inv-loop μ-loop
-loop-again c =
-    trying-more _ _ _ _ _ _ _ _ _ _ _ (c .before .before .before .before .before .loop .inv) (c .before .before .before .before .loop-test .taken) _ (c .before .before .before .codes-behind2 .ensures) _ _ _ (c .before .wide2 .ensures .is)
-    (⊎-elim (λ u. inl (omega (arith, u .0 .taken), u .1, u .2)) (λ u. inr (omega (arith, u .0 .left), u .1, u .2)) (c .before .before .if2 .came))
-
-add-result : tie.Need-add-result Inv-loop μ-loop
-add-result c = omega (arith, fits c)
-
-mul-result : tie.Need-mul-result Inv-loop μ-loop
-mul-result c = omega (arith, fits c)
-
-add-result-2 : tie.Need-add-result-2 Inv-loop μ-loop
-add-result-2 c = omega (arith, fits c, c .before .loop .inv .best-row, c .before .loop .inv .ready .ready .places-ready .placed .few)
+longer-match-requires : tie.Need-longer-match-requires Inv-loop μ-loop
+longer-match-requires c κs = let t = c .before .loop .inv in (t .ready .ready .places-ready .placed, (t .ready .ready .area-room, t .inside))
 
 returns-2 : tie.Need-returns-2 Inv-loop μ-loop
-returns-2 c = trying-ends _ _ _ _ _ _ _ _ _ _ _ (c .before .loop .inv) (c .loop-test .left)
+returns-2 c = trying-stops _ _ _ _ _ _ _ _ _ _ (c .before .before .before .before .loop .inv) _ _ (c .before .before .longer-match .ensures) (c .if2 .taken)
+
+add-codes-behind-2 : tie.Need-add-codes-behind-2 Inv-loop μ-loop
+add-codes-behind-2 c = omega (arith, inside c, c .before .before .before .before .loop .inv .ready .ready .few)
+
+codes-behind-requires-2 : tie.Need-codes-behind-requires-2 Inv-loop μ-loop
+codes-behind-requires-2 c κs = c .before .before .before .before .loop .inv .ready .ready .room
+
+add-count : tie.Need-add-count Inv-loop μ-loop
+add-count c = omega (arith, few c)
+
+mul-best-2 : tie.Need-mul-best-2 Inv-loop μ-loop
+mul-best-2 c = omega (arith, few (c .before))
+
+add-best-3 : tie.Need-add-best-3 Inv-loop μ-loop
+add-best-3 c = omega (arith, few (c .before), below (c .before .before))
+
+loop-less : tie.Need-loop-less Inv-loop μ-loop
+loop-less c = omega (arith, longer (c .before .before), inside (c .before .before))
+
+loop-again : tie.Need-loop-again Inv-loop μ-loop
+loop-again c = trying-more _ _ _ _ _ _ _ _ _ _ (c .before .before .before .before .before .before .loop .inv) _ _ (c .before .before .before .before .longer-match .ensures) (c .before .before .if2 .left) _ _ (c .before .codes-behind2 .ensures) (inl (omega (arith, c .if3 .taken), refl))
+
+loop-less-2 : tie.Need-loop-less-2 Inv-loop μ-loop
+loop-less-2 c = omega (arith, longer (c .before .before), inside (c .before .before))
+
+loop-again-2 : tie.Need-loop-again-2 Inv-loop μ-loop
+loop-again-2 c = trying-more _ _ _ _ _ _ _ _ _ _ (c .before .before .before .before .before .before .loop .inv) _ _ (c .before .before .before .before .longer-match .ensures) (c .before .before .if2 .left) _ _ (c .before .codes-behind2 .ensures) (inr (omega (arith, c .if3 .left), refl))
+
+returns-3 : tie.Need-returns-3 Inv-loop μ-loop
+returns-3 c = trying-ends _ _ _ _ _ _ _ _ _ _ (c .before .loop .inv) (omega (arith, c .loop-test .left))
 
 pub best-at-spec : {M : Type 1} → statement M
 best-at-spec =
@@ -91,20 +117,24 @@ best-at-spec =
     (tie.spec
     Inv-loop
     μ-loop
-    next-match-requires
+    first-match-requires
     returns
+    add-codes-behind
     codes-behind-requires
-    wide-requires
-    mul-row
-    shared-slice-read-row
+    add-best
+    mul-best
+    add-best-2
     loop-holds
+    add-loop
+    longer-match-requires
+    returns-2
+    add-codes-behind-2
     codes-behind-requires-2
-    wide-requires-2
-    mul-row-2
-    shared-slice-read-row-2
+    add-count
+    mul-best-2
+    add-best-3
     loop-less
     loop-again
-    add-result
-    mul-result
-    add-result-2
-    returns-2)
+    loop-less-2
+    loop-again-2
+    returns-3)

@@ -17,7 +17,7 @@ same-length-2 : tie.Need-same-length-2
 same-length-2 c = search needs
 
 returns : tie.Need-returns
-returns c = minimal _ _ _ _ _ _ _ _ _ _ _ (c .before .before .before .before .before .before .before .fill-entries .ensures) (c .before .before .read-codes .ensures)
+returns c = minimal _ _ _ _ _ _ _ _ _ _ (c .before .before .before .before .before .before .before .fill-entries .ensures) (c .before .before .read-codes .ensures)
 
 pub encode-minimal-core-spec : {M : Type 1} → statement M
 encode-minimal-core-spec =

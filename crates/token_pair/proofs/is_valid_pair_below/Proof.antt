@@ -3,7 +3,7 @@ use mathlib.Core.Path.{refl, sym, _∙_}
 use mathlib.Core.Logic.{inl, inr}
 use Prim.Native.Nat.{_+_}
 use native.Mathlib.Omega.{arith}
-use Rattle.token_pair.proofs.Turns.{Walking, walk-start, walk-fails, walk-ends, walk-left, walk-right}
+use Rattle.token_pair.proofs.Turns.{Walking, walk-start, walk-joins, walk-fails, walk-ends, walk-left, walk-right}
 use borrow.Author.Needs.{needs}
 use Rattle.token_pair.proofs.is_valid_pair_below.Statement.{statement}
 use Rattle.token_pair.proofs.is_valid_pair_below.Tie as tie
@@ -19,19 +19,11 @@ abbrev μ-loop : tie.MeasureT-loop
 loop-holds : tie.Need-loop-holds Inv-loop μ-loop
 loop-holds c = walk-start _ _ _ _ _ _ _ _ _ (c .before .before .before .before .before .pre)
 
-join-requires : tie.Need-join-requires Inv-loop μ-loop
-join-requires c κs =
-    let w = c .loop .inv in
-    let f = w .ready .few in
-    (w .ready .places-ready .placed, (w .ready .area-room, (omega (arith, w .left-below), omega (arith, w .right-below))))
-
-is-listed-before-requires : tie.Need-is-listed-before-requires Inv-loop μ-loop
-is-listed-before-requires c κs =
-    let w = c .before .loop .inv in
-    (omega (arith, w .bound-below, w .ready .parts-ready .left-room), omega (arith, w .bound-below, w .ready .parts-ready .right-room))
+is-joined-before-requires : tie.Need-is-joined-before-requires Inv-loop μ-loop
+is-joined-before-requires c κs = walk-joins _ _ _ _ _ _ _ _ _ _ _ _ (c .loop .inv)
 
 returns : tie.Need-returns Inv-loop μ-loop
-returns c = walk-fails _ _ _ _ _ _ _ _ _ _ _ _ _ (c .before .before .before .loop .inv) (c .before .before .join .ensures) (sym (c .before .is-listed-before .ensures) ∙ c .if1 .taken)
+returns c = walk-fails _ _ _ _ _ _ _ _ _ _ _ _ _ (c .before .before .loop .inv) (c .before .is-joined-before .ensures) (c .if1 .taken)
 
 cast-left-part : tie.Need-cast-left-part Inv-loop μ-loop
 cast-left-part c = search needs
@@ -40,7 +32,7 @@ mul-left-part : tie.Need-mul-left-part Inv-loop μ-loop
 mul-left-part c = search needs
 
 shared-slice-read-left-part : tie.Need-shared-slice-read-left-part Inv-loop μ-loop
-shared-slice-read-left-part c = let w = c .before .before .before .before .loop .inv in omega (arith, w .left-below, w .ready .parts-ready .right-room)
+shared-slice-read-left-part c = let w = c .before .before .before .loop .inv in omega (arith, w .left-below, w .ready .parts-ready .right-room)
 
 cast-right-part : tie.Need-cast-right-part Inv-loop μ-loop
 cast-right-part c = search needs
@@ -49,43 +41,43 @@ mul-right-part : tie.Need-mul-right-part Inv-loop μ-loop
 mul-right-part c = search needs
 
 shared-slice-read-right-part : tie.Need-shared-slice-read-right-part Inv-loop μ-loop
-shared-slice-read-right-part c = let w = c .before .before .before .before .before .loop .inv in omega (arith, w .right-below, w .ready .parts-ready .left-room)
+shared-slice-read-right-part c = let w = c .before .before .before .before .loop .inv in omega (arith, w .right-below, w .ready .parts-ready .left-room)
 
 loop-less : tie.Need-loop-less Inv-loop μ-loop
-loop-less c = let t = walk-left _ _ _ _ _ _ _ _ _ _ _ _ _ (c .before .before .before .before .before .before .before .loop .inv) (c .before .before .before .before .before .before .join .ensures) (sym (c .before .before .before .before .before .is-listed-before .ensures) ∙ c .before .before .before .before .if1 .left) _ _ refl (c .if3 .taken) refl (inl (c .before .if2 .taken)) .0 in omega arith
+loop-less c = let t = walk-left _ _ _ _ _ _ _ _ _ _ _ _ _ (c .before .before .before .before .before .before .loop .inv) (c .before .before .before .before .before .is-joined-before .ensures) (c .before .before .before .before .if1 .left) _ _ refl (c .if3 .taken) refl (inl (c .before .if2 .taken)) .0 in omega arith
 
 loop-again : tie.Need-loop-again Inv-loop μ-loop
-loop-again c = walk-left _ _ _ _ _ _ _ _ _ _ _ _ _ (c .before .before .before .before .before .before .before .loop .inv) (c .before .before .before .before .before .before .join .ensures) (sym (c .before .before .before .before .before .is-listed-before .ensures) ∙ c .before .before .before .before .if1 .left) _ _ refl (c .if3 .taken) refl (inl (c .before .if2 .taken)) .1
+loop-again c = walk-left _ _ _ _ _ _ _ _ _ _ _ _ _ (c .before .before .before .before .before .before .loop .inv) (c .before .before .before .before .before .is-joined-before .ensures) (c .before .before .before .before .if1 .left) _ _ refl (c .if3 .taken) refl (inl (c .before .if2 .taken)) .1
 
 returns-2 : tie.Need-returns-2 Inv-loop μ-loop
-returns-2 c = walk-ends _ _ _ _ _ _ _ _ _ _ _ _ _ (c .before .before .before .before .before .before .before .before .loop .inv) (c .before .before .before .before .before .before .before .join .ensures) (sym (c .before .before .before .before .before .before .is-listed-before .ensures) ∙ c .before .before .before .before .before .if1 .left) _ _ refl (c .before .if3 .left) refl (c .if4 .taken)
+returns-2 c = walk-ends _ _ _ _ _ _ _ _ _ _ _ _ _ (c .before .before .before .before .before .before .before .loop .inv) (c .before .before .before .before .before .before .is-joined-before .ensures) (c .before .before .before .before .before .if1 .left) _ _ refl (c .before .if3 .left) refl (c .if4 .taken)
 
 add-bound : tie.Need-add-bound Inv-loop μ-loop
 add-bound c = search needs
 
 loop-less-2 : tie.Need-loop-less-2 Inv-loop μ-loop
-loop-less-2 c = let t = walk-right _ _ _ _ _ _ _ _ _ _ _ _ _ (c .before .before .before .before .before .before .before .before .loop .inv) (c .before .before .before .before .before .before .before .join .ensures) (sym (c .before .before .before .before .before .before .is-listed-before .ensures) ∙ c .before .before .before .before .before .if1 .left) _ _ refl refl (c .if4 .left) (inr (c .before .if3 .left)) .0 in omega arith
+loop-less-2 c = let t = walk-right _ _ _ _ _ _ _ _ _ _ _ _ _ (c .before .before .before .before .before .before .before .loop .inv) (c .before .before .before .before .before .before .is-joined-before .ensures) (c .before .before .before .before .before .if1 .left) _ _ refl refl (c .if4 .left) (inr (c .before .if3 .left)) .0 in omega arith
 
 loop-again-2 : tie.Need-loop-again-2 Inv-loop μ-loop
-loop-again-2 c = walk-right _ _ _ _ _ _ _ _ _ _ _ _ _ (c .before .before .before .before .before .before .before .before .loop .inv) (c .before .before .before .before .before .before .before .join .ensures) (sym (c .before .before .before .before .before .before .is-listed-before .ensures) ∙ c .before .before .before .before .before .if1 .left) _ _ refl refl (c .if4 .left) (inr (c .before .if3 .left)) .1
+loop-again-2 c = walk-right _ _ _ _ _ _ _ _ _ _ _ _ _ (c .before .before .before .before .before .before .before .loop .inv) (c .before .before .before .before .before .before .is-joined-before .ensures) (c .before .before .before .before .before .if1 .left) _ _ refl refl (c .if4 .left) (inr (c .before .if3 .left)) .1
 
 add-bound-2 : tie.Need-add-bound-2 Inv-loop μ-loop
 add-bound-2 c = search needs
 
 loop-less-3 : tie.Need-loop-less-3 Inv-loop μ-loop
-loop-less-3 c = let t = walk-right _ _ _ _ _ _ _ _ _ _ _ _ _ (c .before .before .before .before .before .before .before .loop .inv) (c .before .before .before .before .before .before .join .ensures) (sym (c .before .before .before .before .before .is-listed-before .ensures) ∙ c .before .before .before .before .if1 .left) _ _ refl refl (c .if5 .taken) (inl (c .before .if2 .left)) .0 in omega arith
+loop-less-3 c = let t = walk-right _ _ _ _ _ _ _ _ _ _ _ _ _ (c .before .before .before .before .before .before .loop .inv) (c .before .before .before .before .before .is-joined-before .ensures) (c .before .before .before .before .if1 .left) _ _ refl refl (c .if5 .taken) (inl (c .before .if2 .left)) .0 in omega arith
 
 loop-again-3 : tie.Need-loop-again-3 Inv-loop μ-loop
-loop-again-3 c = walk-right _ _ _ _ _ _ _ _ _ _ _ _ _ (c .before .before .before .before .before .before .before .loop .inv) (c .before .before .before .before .before .before .join .ensures) (sym (c .before .before .before .before .before .is-listed-before .ensures) ∙ c .before .before .before .before .if1 .left) _ _ refl refl (c .if5 .taken) (inl (c .before .if2 .left)) .1
+loop-again-3 c = walk-right _ _ _ _ _ _ _ _ _ _ _ _ _ (c .before .before .before .before .before .before .loop .inv) (c .before .before .before .before .before .is-joined-before .ensures) (c .before .before .before .before .if1 .left) _ _ refl refl (c .if5 .taken) (inl (c .before .if2 .left)) .1
 
 returns-3 : tie.Need-returns-3 Inv-loop μ-loop
-returns-3 c = walk-ends _ _ _ _ _ _ _ _ _ _ _ _ _ (c .before .before .before .before .before .before .before .before .loop .inv) (c .before .before .before .before .before .before .before .join .ensures) (sym (c .before .before .before .before .before .before .is-listed-before .ensures) ∙ c .before .before .before .before .before .if1 .left) _ _ refl (c .if6 .taken) refl (c .before .if5 .left)
+returns-3 c = walk-ends _ _ _ _ _ _ _ _ _ _ _ _ _ (c .before .before .before .before .before .before .before .loop .inv) (c .before .before .before .before .before .before .is-joined-before .ensures) (c .before .before .before .before .before .if1 .left) _ _ refl (c .if6 .taken) refl (c .before .if5 .left)
 
 loop-less-4 : tie.Need-loop-less-4 Inv-loop μ-loop
-loop-less-4 c = let t = walk-left _ _ _ _ _ _ _ _ _ _ _ _ _ (c .before .before .before .before .before .before .before .before .loop .inv) (c .before .before .before .before .before .before .before .join .ensures) (sym (c .before .before .before .before .before .before .is-listed-before .ensures) ∙ c .before .before .before .before .before .if1 .left) _ _ refl (c .if6 .left) refl (inr (c .before .if5 .left)) .0 in omega arith
+loop-less-4 c = let t = walk-left _ _ _ _ _ _ _ _ _ _ _ _ _ (c .before .before .before .before .before .before .before .loop .inv) (c .before .before .before .before .before .before .is-joined-before .ensures) (c .before .before .before .before .before .if1 .left) _ _ refl (c .if6 .left) refl (inr (c .before .if5 .left)) .0 in omega arith
 
 loop-again-4 : tie.Need-loop-again-4 Inv-loop μ-loop
-loop-again-4 c = walk-left _ _ _ _ _ _ _ _ _ _ _ _ _ (c .before .before .before .before .before .before .before .before .loop .inv) (c .before .before .before .before .before .before .before .join .ensures) (sym (c .before .before .before .before .before .before .is-listed-before .ensures) ∙ c .before .before .before .before .before .if1 .left) _ _ refl (c .if6 .left) refl (inr (c .before .if5 .left)) .1
+loop-again-4 c = walk-left _ _ _ _ _ _ _ _ _ _ _ _ _ (c .before .before .before .before .before .before .before .loop .inv) (c .before .before .before .before .before .before .is-joined-before .ensures) (c .before .before .before .before .before .if1 .left) _ _ refl (c .if6 .left) refl (inr (c .before .if5 .left)) .1
 
 pub is-valid-pair-below-spec : {M : Type 1} → statement M
 is-valid-pair-below-spec =
@@ -94,8 +86,7 @@ is-valid-pair-below-spec =
     Inv-loop
     μ-loop
     loop-holds
-    join-requires
-    is-listed-before-requires
+    is-joined-before-requires
     returns
     cast-left-part
     mul-left-part

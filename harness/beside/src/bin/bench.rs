@@ -11,6 +11,9 @@ use ours::{Buffers, Tables, AREA, NONE};
 use std::hint::black_box;
 use std::time::Instant;
 
+#[path = "bench/typing.rs"]
+mod typing;
+
 const SIZES: [usize; 3] = [1024, 2048, 4096];
 /// Lookups in one loop.
 const LOOKUPS: usize = 4096;
@@ -22,15 +25,17 @@ struct Call<'a> {
     name: String,
     text: Option<usize>,
     per: usize,
-    /// Whether our side checks the tables first.
-    checks: bool,
+    /// How often our side checks the tables.
+    checks: usize,
+    /// Whether the call is no public one, and only its core is shown.
+    core: bool,
     ours: Option<Box<dyn FnMut() -> u64 + 'a>>,
     rust: Option<Box<dyn FnMut() -> u64 + 'a>>,
 }
 
 impl<'a> Call<'a> {
     fn new(name: impl Into<String>) -> Self {
-        Call { name: name.into(), text: None, per: 1, checks: true, ours: None, rust: None }
+        Call { name: name.into(), text: None, per: 1, checks: 1, core: false, ours: None, rust: None }
     }
 
     fn ours(mut self, call: impl FnMut() -> u64 + 'a) -> Self {
@@ -52,7 +57,20 @@ impl<'a> Call<'a> {
     /// A loop over core lookups, which check nothing.
     fn lookups(mut self) -> Self {
         self.per = LOOKUPS;
-        self.checks = false;
+        self.checks = 0;
+        self
+    }
+
+    /// A run does the work so often, and checks the tables so often.
+    fn run(mut self, per: usize, checks: usize) -> Self {
+        self.per = per;
+        self.checks = checks;
+        self
+    }
+
+    /// No public call.
+    fn core(mut self) -> Self {
+        self.core = true;
         self
     }
 }
@@ -104,7 +122,8 @@ fn measure(call: &mut Call, tables: Tables, rounds: usize) -> Times {
         }
     }
     let figure = |time: f64| time.is_finite().then_some(time / call.per as f64);
-    Times { ours: figure(best[0]), rust: figure(best[1]), check: best[2] }
+    let check = best[2] * call.checks as f64 / call.per as f64;
+    Times { ours: figure(best[0]), rust: figure(best[1]), check }
 }
 
 fn shown(time: Option<f64>) -> String {
@@ -359,7 +378,9 @@ fn lines(sheet: &Sheet, calls: Vec<Call>, rounds: usize, only: &str) {
             continue;
         }
         let times = measure(&mut call, sheet.tables(), rounds);
-        if call.checks {
+        if call.core {
+            line(&call.name, sheet, call.text, None, None, times.core(), times.rust);
+        } else if call.checks > 0 {
             let check = times.ours.map(|_| times.check);
             line(&call.name, sheet, call.text, times.ours, check, times.core(), times.rust);
         } else {
@@ -410,7 +431,9 @@ fn main() {
         calls.extend(lookups(sheet));
         for size in SIZES {
             calls.extend(text_calls(sheet, &sheet.text[..size]));
+            calls.extend(typing::text_calls(sheet, &sheet.text[..size]));
         }
+        calls.extend(typing::pushes(sheet));
         lines(sheet, calls, rounds, &only);
     }
     for sheet in worst() {

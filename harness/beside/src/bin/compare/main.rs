@@ -31,6 +31,22 @@ impl Seen {
         }
     }
 
+    /// A typing call, and its refusal.
+    fn typing(&mut self, refusal: Option<Refusal>) {
+        match refusal {
+            None => self.count("typing calls"),
+            Some(refusal) => self.count(format!("typing calls, refused, cause {}", refusal.cause)),
+        }
+    }
+
+    /// An interval call, and its refusal.
+    fn interval(&mut self, refusal: Option<Refusal>) {
+        match refusal {
+            None => self.count("interval calls"),
+            Some(refusal) => self.count(format!("interval calls, refused, cause {}", refusal.cause)),
+        }
+    }
+
     /// A difference that docs/DIFFERENCES.md lists.
     fn list(&mut self, what: &str, case: &Case) {
         let (times, smallest) = self.listed.entry(what.to_string()).or_insert_with(|| (0, case.clone()));
@@ -50,7 +66,9 @@ macro_rules! same {
     }};
 }
 
+mod intervals;
 mod texts;
+mod typing;
 
 /// The buffers that build is lent: four tables and the area.
 struct Buffer([Lent; 5]);
@@ -216,7 +234,10 @@ fn compare_damaged(
         let wanted = (!model::in_form(&tables)).then_some(form);
         let damage = format!("table {table}, entry {at} set to {value}");
         same!(told, [wanted; 3], "{damage}");
-        texts::compare_free(&tables, rows, wanted.is_none(), random).map_err(|e| format!("{damage}: {e}"))?;
+        texts::compare_free(&tables, rows, wanted.is_none(), random)
+            .and_then(|_| typing::compare_free(&tables, rows, wanted.is_none(), random))
+            .and_then(|_| intervals::compare_free(&tables, rows, wanted.is_none(), random))
+            .map_err(|e| format!("{damage}: {e}"))?;
         seen.count(if wanted.is_some() { "damaged tables, out of form" } else { "damaged tables, in form" });
         buffer.0[table].part()[at] = kept;
     }
@@ -252,7 +273,10 @@ fn compare(case: &Case, seen: &mut Seen) -> Result<(), String> {
     let Some(rust) = compare_original(case, &rows, &wanted, seen)? else { return Ok(()) };
     let tables = buffer.tables(&file);
     compare_calls(&rows, &tables, &rust, &mut random, seen)?;
-    texts::compare_texts(&mut texts::Sides::new(&rows, tables, &rust), &mut random, seen)?;
+    let mut sides = texts::Sides::new(&rows, tables, &rust);
+    texts::compare_texts(&mut sides, &mut random, seen)?;
+    typing::compare_typing(&mut sides, &mut random, seen)?;
+    intervals::compare_intervals(&mut sides, &mut random, seen)?;
     compare_damaged(&file, &mut buffer, &rows, &mut random, seen)
 }
 

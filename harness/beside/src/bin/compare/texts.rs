@@ -9,9 +9,9 @@ use ours::{Answer, Refusal, Tables, NONE};
 
 /// Our tables, the original and the model of one file.
 pub struct Sides<'a> {
-    tables: Tables<'a>,
-    rust: &'a BytePairEncoding,
-    phrases: Phrases,
+    pub tables: Tables<'a>,
+    pub rust: &'a BytePairEncoding,
+    pub phrases: Phrases,
 }
 
 impl<'a> Sides<'a> {
@@ -48,7 +48,7 @@ impl Wanted {
 }
 
 /// Mostly short, and about the edges: a word of the bit set, and the longest text.
-fn length(random: &mut Random) -> usize {
+pub fn length(random: &mut Random) -> usize {
     match random.below(250) {
         0 => random.within(4095, 4097),
         1..=80 => random.within(0, 3),
@@ -59,7 +59,7 @@ fn length(random: &mut Random) -> usize {
 }
 
 /// A text of so many bytes: letters, one letter and few others, rows, any bytes, or repetitions of a b^k c.
-fn text(random: &mut Random, rows: &[Vec<u8>], size: usize) -> Vec<u8> {
+pub fn text(random: &mut Random, rows: &[Vec<u8>], size: usize) -> Vec<u8> {
     let kind = random.below(6);
     let letters = random.within(1, 4);
     let (letter, most) = (random.below(4) as u8, random.within(1, 14));
@@ -96,12 +96,12 @@ fn short_texts(random: &mut Random) -> Vec<Vec<u8>> {
 }
 
 /// A buffer of about that size; now and then one number too short. The choices that follow do not depend on the size.
-fn buffer<T: Entry>(random: &mut Random, size: usize) -> Lent<T> {
+pub fn buffer<T: Entry>(random: &mut Random, size: usize) -> Lent<T> {
     let size = if random.once_in(15) { size.saturating_sub(1) } else { size + random.below(3) };
     Lent::new(&mut Random::new(random.word()), size)
 }
 
-fn kept<T: Entry>(name: &str, lent: &Lent<T>, at: usize) -> Result<(), String> {
+pub fn kept<T: Entry>(name: &str, lent: &Lent<T>, at: usize) -> Result<(), String> {
     if lent.kept_from(at) {
         return Ok(());
     }

@@ -1,0 +1,79 @@
+// The interval calls for C, document 01's IntervalEncoding: each packs the answer of the public call of crate `interval_prepare` or `interval_count`.
+ghost use Rattle.tables.specs.declared.Answer.{Answer};
+ghost use Rattle.answers.specs.Answers.{answerOf};
+ghost use Rattle.interval_prepare.specs.Answers.{Prepares};
+ghost use Rattle.interval_count.specs.Answers.{Counts};
+ghost use Rattle.exports.specs.Packed.{Packs};
+use crate::pack_answer;
+
+// Last codes, tree numbers, tree ends and depths of a text; the answer is the text's length.
+#[no_mangle]
+pub extern "C" fn bpe_interval_prepare(
+    file: &[u8],
+    places: &[u32],
+    lefts: &[u32],
+    rights: &[u32],
+    prefixes: &[u32],
+    area: &[u32],
+    text: &[u8],
+    last_codes: &mut [u32],
+    numbers: &mut [u32],
+    ends: &mut [u32],
+    depths: &mut [u32],
+    work: &mut [u32],
+) -> u64
+    ensures { λ r. ⌜ Packs answerOf (λ (a : Answer). Prepares (now (file .entry)) (now (places .entry)) (now (lefts .entry)) (now (rights .entry)) (now (prefixes .entry)) (now (area .entry)) (now (text .entry)) (now («last_codes» .entry)) (now (numbers .entry)) (now (ends .entry)) (now (depths .entry)) (now (work .entry)) (now («last_codes» .exit)) (now (numbers .exit)) (now (ends .exit)) (now (depths .exit)) (now (work .exit)) a) r ⌝ }
+{
+    pack_answer(interval_prepare::prepare(
+        file,
+        places,
+        lefts,
+        rights,
+        prefixes,
+        area,
+        text,
+        last_codes,
+        numbers,
+        ends,
+        depths,
+        work,
+    ))
+}
+
+// The number of codes of the piece from start to end, the byte at the end not included, over the tables that preparation left.
+#[no_mangle]
+pub extern "C" fn bpe_interval_count(
+    file: &[u8],
+    places: &[u32],
+    lefts: &[u32],
+    rights: &[u32],
+    prefixes: &[u32],
+    area: &[u32],
+    text: &[u8],
+    last_codes: &[u32],
+    numbers: &[u32],
+    ends: &[u32],
+    depths: &[u32],
+    start: usize,
+    end: usize,
+    work: &mut [u32],
+) -> u64
+    ensures { λ r. ⌜ Packs answerOf (λ (a : Answer). Counts (now (file .entry)) (now (places .entry)) (now (lefts .entry)) (now (rights .entry)) (now (prefixes .entry)) (now (area .entry)) (now (text .entry)) (now («last_codes» .entry)) (now (numbers .entry)) (now (ends .entry)) (now (depths .entry)) start end (now (work .entry)) (now (work .exit)) a) r ⌝ }
+{
+    pack_answer(interval_count::count(
+        file,
+        places,
+        lefts,
+        rights,
+        prefixes,
+        area,
+        text,
+        last_codes,
+        numbers,
+        ends,
+        depths,
+        start,
+        end,
+        work,
+    ))
+}

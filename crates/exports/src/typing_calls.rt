@@ -1,0 +1,207 @@
+// The typing calls for C, document 01's AppendableEncoder and PrependableEncoder: each packs the answer of the call of crate `typing` for its side.
+// Head and records are `#[repr(C)]` structs of that crate. The proofs of these functions are carried over by tools/carry.
+ghost use mathlib.Core.List.{[], _∷_};
+ghost use lib.ListN.{length};
+ghost use Rattle.tables.specs.declared.Answer.{Answer};
+ghost use Rattle.answers.specs.Answers.{answerOf};
+ghost use Rattle.theory.specs.Typing.{append, prepend};
+ghost use Rattle.typing.specs.Calls.{Extended, TokenCounted, Truncated};
+ghost use Rattle.exports.specs.Packed.{Packs};
+use crate::pack_answer;
+use typing::Head;
+use typing::State;
+use typing_core::Side;
+
+// One byte, at the end; the answer is the new length.
+#[no_mangle]
+pub extern "C" fn bpe_append_push(
+    file: &[u8],
+    places: &[u32],
+    lefts: &[u32],
+    rights: &[u32],
+    prefixes: &[u32],
+    area: &[u32],
+    byte: u8,
+    head: &mut Head,
+    states: &mut [State],
+) -> u64
+    ensures { λ r. ⌜ Packs answerOf (λ (a : Answer). Extended (now (file .entry)) (now (places .entry)) (now (lefts .entry)) (now (rights .entry)) (now (prefixes .entry)) (now (area .entry)) append (now (head .entry) .len) (now (states .entry)) (byte ∷ []) a (now (head .exit) .len) (now (states .exit))) r ⌝ }
+{
+    let answer = typing::push(
+        Side::Append,
+        file,
+        places,
+        lefts,
+        rights,
+        prefixes,
+        area,
+        head,
+        states,
+        byte,
+    );
+    pack_answer(answer)
+}
+
+// Bytes in order, each at the end; the answer is the new length.
+#[no_mangle]
+pub extern "C" fn bpe_append_extend(
+    file: &[u8],
+    places: &[u32],
+    lefts: &[u32],
+    rights: &[u32],
+    prefixes: &[u32],
+    area: &[u32],
+    bytes: &[u8],
+    head: &mut Head,
+    states: &mut [State],
+) -> u64
+    ensures { λ r. ⌜ Packs answerOf (λ (a : Answer). Extended (now (file .entry)) (now (places .entry)) (now (lefts .entry)) (now (rights .entry)) (now (prefixes .entry)) (now (area .entry)) append (now (head .entry) .len) (now (states .entry)) (now (bytes .entry)) a (now (head .exit) .len) (now (states .exit))) r ⌝ }
+{
+    let answer = typing::extend(
+        Side::Append,
+        file,
+        places,
+        lefts,
+        rights,
+        prefixes,
+        area,
+        head,
+        states,
+        bytes,
+    );
+    pack_answer(answer)
+}
+
+// The first so many records kept; the answer is the new length. No tables are looked at.
+#[no_mangle]
+pub extern "C" fn bpe_append_truncate(keep: usize, head: &mut Head, states: &[State]) -> u64
+    ensures { λ r. ⌜ Packs answerOf (λ (a : Answer). Truncated (now (head .entry) .len) (length (now (states .entry))) keep a (now (head .exit) .len)) r ⌝ }
+{
+    let answer = typing::truncate(head, states, keep);
+    pack_answer(answer)
+}
+
+// The count of the last record, 0 at length 0.
+#[no_mangle]
+pub extern "C" fn bpe_append_token_count(
+    file: &[u8],
+    places: &[u32],
+    lefts: &[u32],
+    rights: &[u32],
+    prefixes: &[u32],
+    area: &[u32],
+    head: &Head,
+    states: &[State],
+) -> u64
+    ensures { λ r. ⌜ Packs answerOf (λ (a : Answer). TokenCounted (now (file .entry)) (now (places .entry)) (now (lefts .entry)) (now (rights .entry)) (now (prefixes .entry)) (now (area .entry)) append (now (head .entry) .len) (now (states .entry)) a) r ⌝ }
+{
+    let answer = typing::token_count(
+        Side::Append,
+        file,
+        places,
+        lefts,
+        rights,
+        prefixes,
+        area,
+        head,
+        states,
+    );
+    pack_answer(answer)
+}
+
+// One byte, at the front; the answer is the new length.
+#[no_mangle]
+pub extern "C" fn bpe_prepend_push(
+    file: &[u8],
+    places: &[u32],
+    lefts: &[u32],
+    rights: &[u32],
+    prefixes: &[u32],
+    area: &[u32],
+    byte: u8,
+    head: &mut Head,
+    states: &mut [State],
+) -> u64
+    ensures { λ r. ⌜ Packs answerOf (λ (a : Answer). Extended (now (file .entry)) (now (places .entry)) (now (lefts .entry)) (now (rights .entry)) (now (prefixes .entry)) (now (area .entry)) prepend (now (head .entry) .len) (now (states .entry)) (byte ∷ []) a (now (head .exit) .len) (now (states .exit))) r ⌝ }
+{
+    let answer = typing::push(
+        Side::Prepend,
+        file,
+        places,
+        lefts,
+        rights,
+        prefixes,
+        area,
+        head,
+        states,
+        byte,
+    );
+    pack_answer(answer)
+}
+
+// Bytes in order, each at the front; the answer is the new length.
+#[no_mangle]
+pub extern "C" fn bpe_prepend_extend(
+    file: &[u8],
+    places: &[u32],
+    lefts: &[u32],
+    rights: &[u32],
+    prefixes: &[u32],
+    area: &[u32],
+    bytes: &[u8],
+    head: &mut Head,
+    states: &mut [State],
+) -> u64
+    ensures { λ r. ⌜ Packs answerOf (λ (a : Answer). Extended (now (file .entry)) (now (places .entry)) (now (lefts .entry)) (now (rights .entry)) (now (prefixes .entry)) (now (area .entry)) prepend (now (head .entry) .len) (now (states .entry)) (now (bytes .entry)) a (now (head .exit) .len) (now (states .exit))) r ⌝ }
+{
+    let answer = typing::extend(
+        Side::Prepend,
+        file,
+        places,
+        lefts,
+        rights,
+        prefixes,
+        area,
+        head,
+        states,
+        bytes,
+    );
+    pack_answer(answer)
+}
+
+// The first so many records kept; the answer is the new length. No tables are looked at.
+#[no_mangle]
+pub extern "C" fn bpe_prepend_truncate(keep: usize, head: &mut Head, states: &[State]) -> u64
+    ensures { λ r. ⌜ Packs answerOf (λ (a : Answer). Truncated (now (head .entry) .len) (length (now (states .entry))) keep a (now (head .exit) .len)) r ⌝ }
+{
+    let answer = typing::truncate(head, states, keep);
+    pack_answer(answer)
+}
+
+// The count of the last record, 0 at length 0.
+#[no_mangle]
+pub extern "C" fn bpe_prepend_token_count(
+    file: &[u8],
+    places: &[u32],
+    lefts: &[u32],
+    rights: &[u32],
+    prefixes: &[u32],
+    area: &[u32],
+    head: &Head,
+    states: &[State],
+) -> u64
+    ensures { λ r. ⌜ Packs answerOf (λ (a : Answer). TokenCounted (now (file .entry)) (now (places .entry)) (now (lefts .entry)) (now (rights .entry)) (now (prefixes .entry)) (now (area .entry)) prepend (now (head .entry) .len) (now (states .entry)) a) r ⌝ }
+{
+    let answer = typing::token_count(
+        Side::Prepend,
+        file,
+        places,
+        lefts,
+        rights,
+        prefixes,
+        area,
+        head,
+        states,
+    );
+    pack_answer(answer)
+}

@@ -1,0 +1,35 @@
+// A set of keys, one bit for each: a clear bit says that the key is marked. A key that is not marked needs no look-up.
+ghost use mathlib.Core.Path.{_≡_};
+ghost use Prim.Native.Nat.{_+_, _/_, _<_, _≤_};
+ghost use lib.ListN.{length};
+ghost use Rattle.bitfield.specs.Bits.{wordBit, without};
+ghost use Rattle.marks.specs.Marks.{marked, Marks};
+
+// A word without its bit k.
+fn word_without(word: u32, k: usize) -> u32
+    requires { ⌜ k < 32 ⌝ }
+    ensures { λ r. ⌜ wordBit r ≡ without (wordBit word) k ⌝ }
+{
+    if (word >> k) % 2 == 1 {
+        word - (1 << k)
+    } else {
+        word
+    }
+}
+
+// Whether a key is marked.
+pub fn is_marked(numbers: &[u32], base: usize, key: usize) -> bool
+    requires { ⌜ (base ≤ 16384) × (base + key / 32 < length (now numbers)) ⌝ }
+    ensures { λ r. ⌜ r ≡ marked (now (numbers .entry)) base key ⌝ }
+{
+    (numbers[base + key / 32] >> (key % 32)) % 2 == 0
+}
+
+// Marks a key.
+pub fn mark(numbers: &mut [u32], base: usize, key: usize)
+    requires { ⌜ (base ≤ 16384) × (base + key / 32 < length (now numbers)) ⌝ }
+    ensures { λ _. ⌜ Marks (now (numbers .entry)) base key (now (numbers .exit)) ⌝ }
+{
+    let at = base + key / 32;
+    numbers[at] = word_without(numbers[at], key % 32);
+}

@@ -1,0 +1,74 @@
+-- From the child of a row in the front half to the next longer row that begins a text. Assumes nothing.
+use mathlib.Core.Path.{_≡_, sym, ap, _∙_}
+use mathlib.Core.List.{List, _++_}
+use mathlib.Core.Logic.{inl, inr, ⊎-elim}
+use mathlib.Core.Bool.{false}
+use Prim.Native.Nat.{ℕ, _≤_, _<_}
+use native.Mathlib.Decide.{decLt}
+use native.Mathlib.Omega.{arith}
+use lib.ListN.{length, length-drop, drop}
+use Rattle.placed_rows.specs.Rows.{none, row}
+use Rattle.placed_rows.specs.Texts.{Begins, facing, rowFacing}
+use Rattle.placed_rows.specs.Longest.{Known, Longest}
+use Rattle.placed_rows.proofs.Beginning.{beyond, both}
+use Rattle.placed_rows.proofs.Chains.{other}
+use Rattle.forest.specs.Words.{In, Indexed}
+use Rattle.forest.specs.Lookups.{Child, At, ChildIs}
+use Rattle.forest.proofs.NoChild.{no-child}
+use Rattle.search_area.specs.Area.{frontHalf, allRows}
+use Rattle.search_area.specs.Answers.{Reached, Longer, LongerMatch}
+use Rattle.search_area.proofs.Looking.{front-text, front-rows, front-index, below-in}
+
+module _ (R : ℕ → List ℕ) (n : ℕ) (half t : List ℕ) (p len r l : ℕ) (C : ChildIs R n half p len (drop len t) r l) (I : Indexed R n half (allRows n)) (Q : Reached R n t p len) where
+  here : Known (In (allRows n)) p
+  here = ⊎-elim inl (λ h. inr (below-in n p h)) (Q .known)
+
+  abbrev at-row : At R n half (allRows n) p len
+  at-row = record { index = I; known = here; size = Q .size }
+
+  -- what the child goes on with is the text
+  whole : R p ++ drop len t ≡ t
+  whole = ap (λ (k : ℕ). R p ++ drop k t) (Q .size) ∙ ap (λ (s : List ℕ). R p ++ s) (beyond (R p) t (Q .begins)) ∙ sym (Q .begins .split)
+
+  found : (r ≡ none → ⊥) → Child R (I .par) (In (allRows n)) p (drop len t) r × (l ≡ length (R r))
+  found ne = C .sound ne (allRows n) at-row
+
+  begins : (ne : r ≡ none → ⊥) → Begins (R r) t
+  begins ne = rw whole at (found ne .0 .on)
+
+  -- a row that begins t and is shorter than the child is no longer than p
+  no-longer : (ne : r ≡ none → ⊥) (d : ℕ) → d < n → Begins (R d) t → length (R d) < length (R r) → length (R d) ≤ len
+  no-longer ne d h b s =
+      let c = found ne .0 in
+      let q = I .forest .prefix r (c .in-K) .longest d (below-in n d h) (other R d r s) (both (R d) (R r) t b (begins ne) (omega arith)) in
+      omega (arith, q, ap (λ (x : ℕ). length (R x)) (c .under), Q .size)
+
+  shortest : (ne : r ≡ none → ⊥) (d : ℕ) → d < n → Begins (R d) t → len < length (R d) → l ≤ length (R d)
+  shortest ne d h b s = go (decLt (length (R d)) (length (R r)))
+    where
+      go : Dec (length (R d) < length (R r)) → l ≤ length (R d)
+      go (yes k) = absurd (let z = no-longer ne d h b k in omega arith)
+      go (no k) = omega (arith, found ne .1)
+
+  longest : r ≡ none → Longest R (In (allRows n)) t p
+  longest z = no-child R (I .par) (In (allRows n)) (I .forest) t p here (Q .begins)
+      (λ c s e b. C .complete z (allRows n) at-row c (record { in-K = s; under = e; on = rw whole b }))
+
+  pub longer : Longer R n t len r l
+  longer = record {
+    is = λ ne. (begins ne, found ne .1);
+    shortest = shortest;
+    all = λ z d h b. omega (arith, longest z .longest d (below-in n d h) b, Q .size);
+  }
+
+-- the contract, as the code has it
+pub longer-match : (file places : List ℕ) (n : ℕ) (area t rest : List ℕ) (p len r l : ℕ) → len ≤ length t → rest ≡ drop len t
+    → ChildIs (rowFacing false file places n) n (frontHalf area) p len (facing false rest) r l → LongerMatch file places n area t p len r l
+longer-match file places n area t rest p len r l h e C' =
+    let C : ChildIs (row file places n) n (frontHalf area) p len (drop len t) r l = rw (front-rows file places n, front-text rest, e) at C' in
+    record {
+      bound = ⊎-elim inl
+          (λ s. let f = s .fits in inr (record { below = s .below; longer = s .longer; room = omega (arith, length-drop len t); short = s .short }))
+          (C .bound);
+      next = λ F Q. longer (row file places n) n (frontHalf area) t p len r l C (front-index file places n area F) Q;
+    }

@@ -18,6 +18,20 @@ pub fn bytes() -> Vec<Vec<u8>> {
     (0..=255).map(|c| vec![c]).collect()
 }
 
+/// B and these rows.
+pub fn with(longer: &[&str]) -> Vec<Vec<u8>> {
+    let mut rows = bytes();
+    rows.extend(longer.iter().map(|row| row.as_bytes().to_vec()));
+    rows
+}
+
+/// G of document 01: "ab", then B, "bc", "bcd".
+pub fn g() -> Vec<Vec<u8>> {
+    let mut rows = with(&["bc", "bcd"]);
+    rows.insert(0, b"ab".to_vec());
+    rows
+}
+
 /// The grid file: B, "00" to "99", "000" to "999".
 pub fn grid() -> Vec<Vec<u8>> {
     let mut rows = bytes();

@@ -27,7 +27,7 @@ impl Entry for State {
     }
 }
 
-#[derive(Clone)]
+#[derive(Clone, PartialEq)]
 pub struct Lent<T = u32> {
     all: Vec<T>,
     before: Vec<T>,
@@ -63,6 +63,11 @@ impl<T: Entry> Lent<T> {
     /// Nothing from this place on was touched, neither in the buffer nor beyond it.
     pub fn kept_from(&self, at: usize) -> bool {
         self.edges_kept() && self.get()[at..] == self.before()[at..]
+    }
+
+    /// The contents as when it was lent.
+    pub fn restore(&mut self) {
+        self.all.copy_from_slice(&self.before);
     }
 
     /// What is there now is what was lent.

@@ -2,7 +2,7 @@
 //! the merge procedure: the parts of a row are the two rows that merging its bytes over the rows before it leaves, and
 //! two rows pass if merging their bytes leaves these two.
 use ours::{Refusal, AREA, NONE};
-use std::collections::HashMap;
+use std::collections::{HashMap, HashSet};
 
 pub fn hash(bytes: &[u8], factor: u64) -> u32 {
     let mut hash: u64 = 0xcbf29ce484222325;
@@ -45,8 +45,10 @@ pub fn check(file: &[u8]) -> Result<Vec<Vec<u8>>, Refusal> {
     if rows.len() < 256 || rows.len() > 4096 {
         return refused(3, rows.len());
     }
-    if let Some(byte) = (0..=255).find(|&b| !rows.iter().any(|row| row[..] == [b])) {
-        return refused(4, byte as usize);
+    let mut alone = [false; 256];
+    rows.iter().filter(|row| row.len() == 1).for_each(|row| alone[row[0] as usize] = true);
+    if let Some(byte) = alone.iter().position(|&row| !row) {
+        return refused(4, byte);
     }
     Ok(rows)
 }
@@ -101,8 +103,8 @@ pub fn build(file: &[u8], factor: u64, sizes: Sizes) -> Result<Tables, Refusal> 
     if sizes[..4].iter().any(|&size| size < rows.len()) || sizes[4] < AREA {
         return refused(7, 0);
     }
-    let hashes: Vec<u32> = rows.iter().map(|row| hash(row, factor)).collect();
-    if let Some(row) = (0..rows.len()).find(|&i| hashes[..i].contains(&hashes[i])) {
+    let mut hashes = HashSet::new();
+    if let Some(row) = rows.iter().position(|row| !hashes.insert(hash(row, factor))) {
         return refused(5, row);
     }
     let numbers = numbers(&rows);
@@ -300,18 +302,6 @@ mod tests {
     use super::*;
     use crate::files;
 
-    fn with(longer: &[&str]) -> Vec<Vec<u8>> {
-        let mut rows = files::bytes();
-        rows.extend(longer.iter().map(|row| row.as_bytes().to_vec()));
-        rows
-    }
-
-    fn g() -> Vec<Vec<u8>> {
-        let mut rows = with(&["bc", "bcd"]);
-        rows.insert(0, b"ab".to_vec());
-        rows
-    }
-
     fn built(rows: &[Vec<u8>]) -> Result<Tables, Refusal> {
         build(&files::file_of(rows), 1, [4096, 4096, 4096, 4096, AREA])
     }
@@ -319,26 +309,26 @@ mod tests {
     /// The samples of document 01, on the model.
     #[test]
     fn samples() {
-        let e = with(&["bc", "ab", "cd"]);
+        let e = files::with(&["bc", "ab", "cd"]);
         assert!(built(&e).is_ok());
         assert_eq!(merge(&numbers(&e), NONE, b"abcd"), [&b"a"[..], b"bc", b"d"]);
-        let f = with(&["aa"]);
+        let f = files::with(&["aa"]);
         assert!(built(&f).is_ok());
         assert_eq!(merge(&numbers(&f), NONE, b"aaa"), [&b"aa"[..], b"a"]);
         assert!(!passes(&numbers(&f), b"a", b"aa"));
         assert!(passes(&numbers(&f), b"aa", b"a"));
-        assert_eq!(built(&g()), refused(6, 0));
+        assert_eq!(built(&files::g()), refused(6, 0));
     }
 
     /// The samples on texts, and the limit of document 01's rule that is no fact about the text.
     #[test]
     fn samples_on_texts() {
-        let mut e = Phrases::new(&with(&["bc", "ab", "cd"]));
+        let mut e = Phrases::new(&files::with(&["bc", "ab", "cd"]));
         assert_eq!(e.encode(b"abcd"), [97, 256, 100]);
         assert_eq!(e.shortest(b"abcd"), [257, 258]);
         assert_eq!(e.greedy(b"abcd"), [257, 258]);
         assert_eq!(e.running(b"abcd").last(), Some(&3));
-        assert_eq!(Phrases::new(&with(&["aa"])).encode(b"aaa"), [256, 97]);
+        assert_eq!(Phrases::new(&files::with(&["aa"])).encode(b"aaa"), [256, 97]);
         let text = [b"a", &[b'b'; 13][..], b"c"].concat();
         let running = Phrases::new(&files::backtracking(13)).running(&text);
         assert_eq!((limited(&running, 2), limited(&running, 3)), (None, Some(2)));
@@ -347,7 +337,7 @@ mod tests {
     /// What document 01 says of the original on G.
     #[test]
     fn original_on_g() {
-        let rust = original::build(g(), 1).unwrap();
+        let rust = original::build(files::g(), 1).unwrap();
         assert_eq!(rust.encode_via_table(b"abcd"), [98, 258]);
         assert_eq!(rust.encode_via_backtracking(b"abcd"), [0, 100, 101]);
     }

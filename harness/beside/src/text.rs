@@ -90,6 +90,20 @@ impl Language {
     }
 }
 
+/// All texts up to a length over these letters, from the shortest on.
+pub fn all(letters: &[u8], longest: usize) -> Vec<Vec<u8>> {
+    let mut texts = vec![vec![]];
+    let mut from = 0;
+    for _ in 0..longest {
+        let to = texts.len();
+        for i in from..to {
+            texts.extend(letters.iter().map(|&c| [&texts[i][..], &[c]].concat()).collect::<Vec<_>>());
+        }
+        from = to;
+    }
+    texts
+}
+
 /// A text of digits.
 pub fn digits(seed: u64, size: usize) -> Vec<u8> {
     let mut random = Random::new(seed);

@@ -1,4 +1,4 @@
-//! Compares the public calls with the original and with the model, on random small files and texts.
+//! Compares the public calls with the original and with the model: on random files and texts, on all small ones, and on fixed ones.
 //! `compare [SEED [SECONDS]]`: stops at the first difference that is on no list, with the smallest form of its case.
 use beside::cases::{case, Case};
 use beside::lent::Lent;
@@ -13,6 +13,7 @@ use std::time::{Duration, Instant};
 #[derive(Default)]
 struct Seen {
     calls: u64,
+    encodings: u64,
     counts: BTreeMap<String, u64>,
     listed: BTreeMap<String, (u64, Case)>,
 }
@@ -20,6 +21,18 @@ struct Seen {
 impl Seen {
     fn count(&mut self, what: impl Into<String>) {
         *self.counts.entry(what.into()).or_default() += 1;
+    }
+
+    /// So many calls that were answered.
+    fn add(&mut self, what: &str, times: u64) {
+        self.calls += times;
+        *self.counts.entry(what.to_string()).or_default() += times;
+    }
+
+    /// A call of an encoder, and its refusal.
+    fn encode(&mut self, refusal: Option<Refusal>) {
+        self.encodings += u64::from(refusal.is_none());
+        self.call("encoders", refusal);
     }
 
     /// A call on a text, or of decoding, and its refusal.
@@ -51,7 +64,7 @@ impl Seen {
     fn list(&mut self, what: &str, case: &Case) {
         let (times, smallest) = self.listed.entry(what.to_string()).or_insert_with(|| (0, case.clone()));
         *times += 1;
-        if case.rows.len() < smallest.rows.len() {
+        if size(case) < size(smallest) {
             *smallest = case.clone();
         }
     }
@@ -66,11 +79,17 @@ macro_rules! same {
     }};
 }
 
+mod exhaustive;
+mod fixed;
 mod intervals;
 mod texts;
 mod typing;
 
+/// One comparison.
+type Job = Box<dyn FnOnce(&mut Seen) -> Result<(), String>>;
+
 /// The buffers that build is lent: four tables and the area.
+#[derive(Clone, PartialEq)]
 struct Buffer([Lent; 5]);
 
 impl Buffer {
@@ -126,6 +145,12 @@ fn compare_original(
     seen: &mut Seen,
 ) -> Result<Option<BytePairEncoding>, String> {
     let cause = match answer {
+        Err(Refusal { cause: 2, .. }) if case.damage.is_none() && case.rows.iter().any(|row| row.len() > 64) => {
+            if original::build(case.rows.clone(), case.factor).is_ok() {
+                seen.list("2: the original accepts a row over 64 bytes", case);
+            }
+            return Ok(None);
+        }
         // Refusals that the original has no counterpart of.
         Err(Refusal { cause: 2 | 7, .. }) => return Ok(None),
         Err(Refusal { cause, .. }) => *cause,
@@ -193,7 +218,7 @@ fn compare_calls(
         same!(passes, Ok(model::passes(&numbers, left, right)), "pair {x} {y}, the model");
         same!(passes, Ok(rust.probe_pair(x, y)), "pair {x} {y}, the original");
         same!(tables.token_len(x), Ok(rust.token_len(x) as u32), "token_len {x}");
-        seen.count("pair checks");
+        seen.add("pair checks", 1);
     }
     let x = random.below(rows.len()) as u32;
     for unknown in [n, n + 1, NONE, random.word() as u32 | 4096] {
@@ -244,12 +269,19 @@ fn compare_damaged(
     Ok(())
 }
 
-/// Everything about one case.
-fn compare(case: &Case, seen: &mut Seen) -> Result<(), String> {
-    let mut random = Random::new(case.seed ^ 0x5eed);
+/// An accepted file: the tables that build left, and the original's dictionary.
+struct Built {
+    file: Vec<u8>,
+    buffer: Buffer,
+    rows: Vec<Vec<u8>>,
+    rust: BytePairEncoding,
+}
+
+/// The build of a case; nothing where it is refused.
+fn compare_build(case: &Case, random: &mut Random, seen: &mut Seen) -> Result<Option<Built>, String> {
     let file = case.file();
     let sizes = case.sizes();
-    let mut buffer = Buffer(sizes.map(|size| Lent::new(&mut random, size)));
+    let mut buffer = Buffer(sizes.map(|size| Lent::new(random, size)));
     let answer = ours::from_dictionary(&file, case.factor, buffer.lend());
     let wanted = model::build(&file, case.factor, sizes);
     same!(answer, wanted.as_ref().map(|t| t.places.len() as u32).map_err(|e| *e), "build");
@@ -258,7 +290,7 @@ fn compare(case: &Case, seen: &mut Seen) -> Result<(), String> {
             return Err(format!("build wrote beyond buffer {i}"));
         }
     }
-    seen.count("files");
+    seen.add("files", 1);
     let rows = model::parse(&file).unwrap_or_default();
     match &wanted {
         Ok(tables) => {
@@ -270,14 +302,24 @@ fn compare(case: &Case, seen: &mut Seen) -> Result<(), String> {
             compare_after_refusal(&buffer, refusal.cause, rows.len())?;
         }
     }
-    let Some(rust) = compare_original(case, &rows, &wanted, seen)? else { return Ok(()) };
+    let rust = compare_original(case, &rows, &wanted, seen)?;
+    Ok(rust.map(|rust| Built { file, buffer, rows, rust }))
+}
+
+/// Everything about one case.
+fn compare(case: &Case, seen: &mut Seen) -> Result<(), String> {
+    let mut random = Random::new(case.seed ^ 0x5eed);
+    let Some(Built { file, mut buffer, rows, rust }) = compare_build(case, &mut random, seen)? else { return Ok(()) };
+    let before = buffer.clone();
     let tables = buffer.tables(&file);
     compare_calls(&rows, &tables, &rust, &mut random, seen)?;
     let mut sides = texts::Sides::new(&rows, tables, &rust);
     texts::compare_texts(&mut sides, &mut random, seen)?;
     typing::compare_typing(&mut sides, &mut random, seen)?;
     intervals::compare_intervals(&mut sides, &mut random, seen)?;
-    compare_damaged(&file, &mut buffer, &rows, &mut random, seen)
+    compare_damaged(&file, &mut buffer, &rows, &mut random, seen)?;
+    same!(buffer == before, true, "the tables after the calls are those before");
+    Ok(())
 }
 
 /// How a case fails, with some other random choices too.
@@ -340,29 +382,79 @@ fn smallest(mut case: Case, mut failure: String) -> (Case, String) {
     }
 }
 
+/// A case, or the smallest form of it that fails.
+fn compare_shrinking(case: Case, seen: &mut Seen) -> Result<(), String> {
+    match compare(&case, seen) {
+        Err(failure) => {
+            println!("seed {}: {failure}", case.seed);
+            let (case, failure) = smallest(case, failure);
+            Err(format!("smallest: {failure}\n{}", case.shown()))
+        }
+        Ok(()) => Ok(()),
+    }
+}
+
+/// Comparisons of one kind, how many there are, how many were made and how long they took.
+struct Source {
+    name: &'static str,
+    size: usize,
+    jobs: Box<dyn Iterator<Item = Job>>,
+    made: usize,
+    spent: Duration,
+}
+
+impl Source {
+    fn new(name: &'static str, (size, jobs): (usize, impl Iterator<Item = Job> + 'static)) -> Self {
+        Source { name, size, jobs: Box::new(jobs), made: 0, spent: Duration::ZERO }
+    }
+}
+
+fn random_cases(first: u64) -> (usize, impl Iterator<Item = Job>) {
+    (usize::MAX, (first..).map(|seed| -> Job { Box::new(move |seen| compare_shrinking(case(seed), seen)) }))
+}
+
+/// The next comparison of the kind that had the least time.
+fn next(sources: &mut [Source], seen: &mut Seen) -> Result<(), String> {
+    let waiting = sources.iter_mut().filter(|source| source.made < source.size);
+    let source = waiting.min_by_key(|source| source.spent).expect("random cases do not end");
+    let start = Instant::now();
+    let job = source.jobs.next().expect("as many comparisons as were said");
+    job(seen).map_err(|failure| format!("{}, comparison {}: {failure}", source.name, source.made + 1))?;
+    source.made += 1;
+    source.spent += start.elapsed();
+    Ok(())
+}
+
 fn main() {
     let mut words = std::env::args().skip(1).map(|w| w.parse::<u64>().expect("a number"));
     let first = words.next().unwrap_or(1);
     let limit = Duration::from_secs(words.next().unwrap_or(20));
+    println!("seed {first}");
     let start = Instant::now();
     let mut seen = Seen::default();
-    let mut seed = first;
+    let mut sources = [
+        Source::new("fixed files", fixed::all()),
+        Source::new("all small files", exhaustive::all()),
+        Source::new("random files", random_cases(first)),
+    ];
     while start.elapsed() < limit {
-        let case = case(seed);
-        if let Err(failure) = compare(&case, &mut seen) {
-            println!("seed {seed}: {failure}");
-            let (case, failure) = smallest(case, failure);
-            println!("smallest: {failure}\n{}", case.shown());
+        if let Err(failure) = next(&mut sources, &mut seen) {
+            println!("{failure}");
             std::process::exit(1);
         }
-        seed += 1;
     }
-    println!("seeds {first} to {}, {:.1} s", seed - 1, start.elapsed().as_secs_f64());
+    for Source { name, size, made, spent, .. } in &sources {
+        let all = if *size == usize::MAX { String::new() } else { format!(" of {size}") };
+        println!("{name}: {made}{all} comparisons, {:.1} s", spent.as_secs_f64());
+    }
     for (what, times) in &seen.counts {
         println!("{what}: {times}");
     }
     for (what, (times, case)) in &seen.listed {
-        println!("listed difference {what}: {times}; smallest, seed {}: {}", case.seed, case.shown());
+        println!("listed difference {what}: {times}; smallest: {}", case.shown());
     }
-    println!("files: {}, calls on texts and of decoding: {}, differences: 0", seed - first, seen.calls);
+    println!(
+        "{} calls ({} encodings), {} files, 0 differences beside the listed",
+        seen.calls, seen.encodings, seen.counts["files"]
+    );
 }

@@ -4,6 +4,7 @@ use beside::encoders::{Encoder, Sent, ENCODERS};
 use beside::lent::{Entry, Lent};
 use beside::model::{self, Phrases};
 use beside::random::Random;
+use beside::text;
 use original::byte_pair_encoding::BytePairEncoding;
 use ours::{Answer, Refusal, Tables, NONE};
 
@@ -18,14 +19,24 @@ impl<'a> Sides<'a> {
     pub fn new(rows: &[Vec<u8>], tables: Tables<'a>, rust: &'a BytePairEncoding) -> Self {
         Sides { tables, rust, phrases: Phrases::new(rows) }
     }
+
+    /// What the model says of a text.
+    pub fn wanted(&mut self, text: &[u8]) -> Wanted {
+        Wanted::new(&mut self.phrases, text)
+    }
+
+    /// Whether two rows pass, by the model.
+    pub fn passes(&mut self, left: u32, right: u32) -> bool {
+        self.phrases.pass(left, right)
+    }
 }
 
 /// What the model says of a text.
-struct Wanted {
-    merged: Vec<u32>,
+pub struct Wanted {
+    pub merged: Vec<u32>,
     shortest: Vec<u32>,
     greedy: Vec<u32>,
-    running: Vec<usize>,
+    pub running: Vec<usize>,
 }
 
 impl Wanted {
@@ -38,7 +49,7 @@ impl Wanted {
         }
     }
 
-    fn codes(&self, sent: Sent) -> &[u32] {
+    pub fn codes(&self, sent: Sent) -> &[u32] {
         match sent {
             Sent::Merged => &self.merged,
             Sent::Shortest => &self.shortest,
@@ -58,41 +69,51 @@ pub fn length(random: &mut Random) -> usize {
     }
 }
 
-/// A text of so many bytes: letters, one letter and few others, rows, any bytes, or repetitions of a b^k c.
-pub fn text(random: &mut Random, rows: &[Vec<u8>], size: usize) -> Vec<u8> {
-    let kind = random.below(6);
+/// Kinds of texts.
+pub const KINDS: usize = 7;
+
+/// A text of so many bytes and of that kind: letters, one letter and few others, rows, any bytes, repetitions of a b^k c, rows with
+/// one byte changed.
+pub fn text_of(random: &mut Random, rows: &[Vec<u8>], size: usize, kind: usize) -> Vec<u8> {
     let letters = random.within(1, 4);
     let (letter, most) = (random.below(4) as u8, random.within(1, 14));
+    let last = &rows[rows.len() - rows.len().min(if random.once_in(2) { 20 } else { rows.len() - 255 })..];
     let mut text = vec![];
     while text.len() < size {
         match kind {
             0 | 1 => text.push(b'a' + random.below(letters) as u8),
             2 if random.once_in(20) => text.push(b'a' + random.below(letters) as u8),
             2 => text.push(b'a' + letter),
-            3 => text.extend(random.pick(&rows[rows.len() - rows.len().min(20)..])),
+            3 => text.extend(random.pick(last)),
             4 => text.push(random.word() as u8),
-            _ => text.extend([b"a", &vec![b'b'; random.within(1, most)][..], b"c"].concat()),
+            5 => text.extend([b"a", &vec![b'b'; random.within(1, most)][..], b"c"].concat()),
+            _ => {
+                let mut row = random.pick(last).clone();
+                let at = random.below(row.len());
+                row[at] = if random.once_in(2) { b'a' + random.below(letters) as u8 } else { random.pick(last)[0] };
+                text.extend(row);
+            }
         }
     }
     text.truncate(size);
     text
 }
 
+/// The same of any kind.
+pub fn text(random: &mut Random, rows: &[Vec<u8>], size: usize) -> Vec<u8> {
+    let kind = random.below(KINDS);
+    text_of(random, rows, size, kind)
+}
+
 /// All texts up to a length over two or three letters.
 fn short_texts(random: &mut Random) -> Vec<Vec<u8>> {
     let mut letters = *b"abcd";
     random.shuffle(&mut letters);
-    let (letters, longest) = if random.once_in(2) { (&letters[..2], 7) } else { (&letters[..3], 4) };
-    let mut texts = vec![vec![]];
-    let mut from = 0;
-    for _ in 0..longest {
-        let to = texts.len();
-        for i in from..to {
-            texts.extend(letters.iter().map(|&c| [&texts[i][..], &[c]].concat()).collect::<Vec<_>>());
-        }
-        from = to;
+    if random.once_in(2) {
+        text::all(&letters[..2], 7)
+    } else {
+        text::all(&letters[..3], 4)
     }
-    texts
 }
 
 /// A buffer of about that size; now and then one number too short. The choices that follow do not depend on the size.
@@ -119,7 +140,7 @@ fn compare_encoders(
         let (mut out, mut work) = (buffer(random, text.len()), buffer(random, text.len()));
         let answer = ours(&sides.tables, text, out.part(), work.part());
         let refusal = model::send_refusal(text.len(), &[out.get().len(), work.get().len()], true);
-        seen.call("encoders", refusal);
+        seen.encode(refusal);
         if let Some(refusal) = refusal {
             same!(answer, Err(refusal), "{name}");
             kept(name, &out, 0)?;
@@ -244,7 +265,7 @@ fn compare_decoding(
 fn compare_text(sides: &mut Sides, text: &[u8], seed: u64, seen: &mut Seen) -> Result<(), String> {
     let mut random = Random::new(seed);
     let model = if text.len() > 4096 { &[] } else { text };
-    let wanted = Wanted::new(&mut sides.phrases, model);
+    let wanted = sides.wanted(model);
     compare_encoders(sides, text, &wanted, &mut random, seen)?;
     compare_counts(sides, text, &wanted, &mut random, seen)?;
     compare_decoding(sides, text, &wanted, &mut random, seen)
@@ -280,13 +301,18 @@ pub fn compare_texts(sides: &mut Sides, random: &mut Random, seen: &mut Seen) ->
         seen.count("files with all short texts");
     }
     for text in texts {
-        let seed = random.word();
-        seen.count(if text.len() < 4000 { "texts" } else { "texts of 4,095 to 4,097 bytes" });
-        if let Err(failure) = compare_text(sides, &text, seed, seen) {
-            return Err(smallest(sides, text, seed, failure));
-        }
+        compare_shrinking(sides, text, random.word(), seen)?;
     }
     Ok(())
+}
+
+/// A text, or the smallest form of it that fails.
+pub fn compare_shrinking(sides: &mut Sides, text: Vec<u8>, seed: u64, seen: &mut Seen) -> Result<(), String> {
+    seen.count(if text.len() < 4000 { "texts" } else { "texts of 4,095 to 4,097 bytes" });
+    match compare_text(sides, &text, seed, seen) {
+        Err(failure) => Err(smallest(sides, text, seed, failure)),
+        Ok(()) => Ok(()),
+    }
 }
 
 /// A text over tables that no build left: refused by 8 exactly if they are out of form, else within the bounds that hold of any answer.

@@ -1,9 +1,11 @@
--- The sender, the counter and the typing encoder on one text, over tables that a build left. Assumes nothing.
+-- The sender, the counter and the typing encoder on one text: the cases of `sender_against_counters`. Assumes nothing.
 use mathlib.Core.Path.{_≡_, refl, sym, ap, _∙_}
+use mathlib.Core.Option.{Option, none, some}
 use mathlib.Core.List.{List}
-use Prim.Native.Nat.{ℕ, suc, _-_, _≤_, _<_}
+use Prim.Native.Nat.{ℕ, zero, suc, _-_, _≤_, _<_, min}
 use native.Mathlib.Omega.{arith}
 use lib.ListN.{length, getD}
+use borrow.Author.Tests.{eq-eqb, ne-eqb}
 use Rattle.causes.specs.declared.Cause.{Cause}
 use Rattle.theory.specs.Merge.{encode}
 use Rattle.theory.specs.Typing.{append, countAt}
@@ -12,69 +14,193 @@ use Rattle.theory.proofs.Encode.{encode-spells}
 use Rattle.theory.proofs.Decoding.{codes-fit}
 use Rattle.tables.specs.declared.Answer.{Answer}
 use Rattle.tables.specs.declared.Answer.the-variants.{Number, Refused}
+use Rattle.tables.specs.InForm.{formOf}
+use Rattle.answers.specs.Answers.{answered}
+use Rattle.answers.specs.Refusals.{sendRefusal, countRefusal}
+use Rattle.answers.proofs.Refusals.{count-as-send, not-refused, no-refusal}
 use Rattle.built.specs.Built.{dictionaryOf, Built}
 use Rattle.built.proofs.Rows.{lawful-is}
-use Rattle.byte_pair_encoding.specs.Sending.{Sends}
+use Rattle.byte_pair_encoding.specs.Sending.{Written, Sends}
 use Rattle.byte_pair_encoding.specs.Counting.{Counts}
-use Rattle.byte_pair_encoding.proofs.Promises.{sending-allowed, sends-codes, counts-codes}
+use Rattle.byte_pair_encoding.proofs.Promises.{number-answered, sending-allowed}
 use Rattle.typing.specs.Text.{TextTyped}
+use Rattle.demand_3.specs.declared.Agreement.{Agreement}
 use Rattle.demand_3.specs.declared.Agreement.the-variants as Agreement
-use Rattle.demand_3.specs.Agreement.{Room, TypedCount, Agrees}
+use Rattle.demand_3.specs.Agreement.{lastCount, agreementOf, TypedCount, Compared, AsMerged, Agrees}
+
+-- an answer that is a refusal has its cause
+refused-answered : (refusal : Option Cause) (count : ℕ) (cause : Cause) → answered refusal count ≡ Refused cause → refusal ≡ some cause
+refused-answered none count cause e = absurd (let z : _≡_ {A = ℕ} 0 1 = cc in omega arith)
+refused-answered (some other) count cause e = let q : other ≡ cause = cc in ap some q
+
+-- there is no cause where there is none
+some-none : {A : Type 0} (refusal : Option Cause) (cause : Cause) → refusal ≡ some cause → refusal ≡ none → A
+some-none refusal cause e f = absurd (let g : none ≡ some cause = sym f ∙ e in let z : _≡_ {A = ℕ} 0 1 = cc in omega arith)
+
+-- the cases of the answer
+all-same : (refusal : Option Cause) (sent counted last : ℕ) → refusal ≡ none → sent ≡ counted → sent ≡ last → agreementOf refusal sent counted last ≡ Agreement.Agree sent
+all-same refusal sent counted last e f g = rw (e, eq-eqb sent counted f, eq-eqb sent last g)
+
+other-count : (refusal : Option Cause) (sent counted last : ℕ) → refusal ≡ none → (sent ≡ counted → ⊥) → agreementOf refusal sent counted last ≡ Agreement.Differ
+other-count refusal sent counted last e f = rw (e, ne-eqb sent counted f)
+
+other-last : (refusal : Option Cause) (sent counted last : ℕ) → refusal ≡ none → sent ≡ counted → (sent ≡ last → ⊥) → agreementOf refusal sent counted last ≡ Agreement.Differ
+other-last refusal sent counted last e f g = rw (e, eq-eqb sent counted f, ne-eqb sent last g)
+
+-- the count of the last byte, where there is one
+last-is : (typed : ℕ) (counts : List ℕ) → (typed ≡ 0 → ⊥) → getD counts (typed - 1) 0 ≡ lastCount typed counts
+last-is zero counts any = absurd (any refl)
+last-is (suc i) counts any = ap (λ (k : ℕ). getD counts k 0) (let e : suc i - 1 ≡ i = omega arith in e)
 
 module _ (file placeTable lefts rights prefixes area text counts : List ℕ) where
   -- no byte was typed
   pub typed-none : (r : ℕ) (counts' : List ℕ) → TextTyped file placeTable lefts rights prefixes area append text counts r counts' → r ≡ 0
-      → TypedCount file placeTable lefts rights prefixes area text counts 0
-  typed-none r counts' t e = record {
-    built = λ n B short room.
-        let some = t .typed n B in
-        let spelled = ap length (encode-spells (dictionaryOf file) (lawful-is file placeTable lefts rights prefixes area n B) text) in
-        let fit = codes-fit (dictionaryOf file) (lawful-is file placeTable lefts rights prefixes area n B) (encode (dictionaryOf file) text) in
-        omega (arith, some, spelled, fit);
-  }
+      → TypedCount file placeTable lefts rights prefixes area text counts counts' 0
+  typed-none r counts' t e = record { typed = r; is = ap (λ (k : ℕ). lastCount k counts') (sym e); text-typed = t }
 
   -- the count after the last byte
   pub typed-last : (r : ℕ) (counts' : List ℕ) → TextTyped file placeTable lefts rights prefixes area append text counts r counts' → (r ≡ 0 → ⊥)
-      → (k : ℕ) → k ≡ getD counts' (r - 1) 0 → TypedCount file placeTable lefts rights prefixes area text counts k
-  typed-last r counts' t some k is = record {
-    built = λ n B short room.
-        let all = t .typed n B in
-        let more : 0 < r = omega (arith, some) in
-        let size : length text ≡ suc (r - 1) = omega (arith, all, more) in
-        is ∙ t .counted n B (r - 1) (omega (arith, more)) ∙ countAt-last (dictionaryOf file) append text (r - 1) size;
-  }
+      → (k : ℕ) → k ≡ getD counts' (r - 1) 0 → TypedCount file placeTable lefts rights prefixes area text counts counts' k
+  typed-last r counts' t any k is = record { typed = r; is = is ∙ last-is r counts' any; text-typed = t }
 
-  module _ (out work out' work' : List ℕ) (sending : Answer) (s : Sends encode file placeTable lefts rights prefixes area text out work out' work' sending) where
-    sent : (n : ℕ) → Built file placeTable lefts rights prefixes area n → Room text out work counts → sending ≡ Number (length (encode (dictionaryOf file) text))
-    sent n B room = sends-codes encode file placeTable lefts rights prefixes area text out work out' work' sending s n B (room .short) (room .out-room) (room .work-room) .answer
+  -- with room for all counts the last one is that of the whole text
+  last-merged : (n : ℕ) → Built file placeTable lefts rights prefixes area n → length text ≤ length counts → (counts' : List ℕ) (typed : ℕ) → typed ≡ min (length text) (length counts)
+      → ((i : ℕ) → i < typed → getD counts' i 0 ≡ countAt (dictionaryOf file) append text i) → lastCount typed counts' ≡ length (encode (dictionaryOf file) text)
+  last-merged n B room counts' zero all are =
+      let spelled = ap length (encode-spells (dictionaryOf file) (lawful-is file placeTable lefts rights prefixes area n B) text) in
+      let fit = codes-fit (dictionaryOf file) (lawful-is file placeTable lefts rights prefixes area n B) (encode (dictionaryOf file) text) in
+      omega (arith, all, room, spelled, fit)
+  last-merged n B room counts' (suc i) all are = are i (omega arith) ∙ countAt-last (dictionaryOf file) append text i (omega (arith, all, room))
 
-    work-stays : (n : ℕ) → Built file placeTable lefts rights prefixes area n → Room text out work counts → length text ≤ length work'
-    work-stays n B room =
-        let kept = s .written (sending-allowed file placeTable lefts rights prefixes area text n B (room .short) out work (room .out-room) (room .work-room)) .work-length in
-        omega (arith, room .work-room, kept)
+  module _ (out work : List ℕ) where
+    abbrev refusal : Option Cause
+    refusal = sendRefusal text out work (formOf file placeTable lefts rights prefixes area)
 
-    pub send-refused : (cause : Cause) → sending ≡ Refused cause → Agrees file placeTable lefts rights prefixes area text out work counts (Agreement.Refused cause)
-    send-refused cause e = record { built = λ n B room. absurd (let f = sym (sent n B room) ∙ e in let z : _≡_ {A = ℕ} 0 1 = cc in omega arith) }
+    -- the promise where nothing was refused, from what holds then
+    compared-agrees : (out' work' counts' : List ℕ) (r : Agreement) (sent counted typed : ℕ) → refusal ≡ none
+        → r ≡ agreementOf refusal sent counted (lastCount typed counts')
+        → Compared file text out work counts out' work' counts' sent counted typed
+        → ((n : ℕ) → Built file placeTable lefts rights prefixes area n → AsMerged file text out counts out' counts' sent counted typed)
+        → Agrees file placeTable lefts rights prefixes area text out work counts out' work' counts' r
+    compared-agrees out' work' counts' r sent counted typed allowed is holds merged = record {
+      sent = sent;
+      counted = counted;
+      typed = typed;
+      answer = is;
+      refused = λ cause e. some-none refusal cause e allowed;
+      compared = λ e. holds;
+      merged = λ n B e. merged n B;
+      built = λ n B room.
+          let m = merged n B in
+          let last = last-merged n B (room .counts-room) counts' typed (m .typed-is) (m .counts-are) in
+          is ∙ all-same refusal sent counted (lastCount typed counts') allowed (m .sent-is ∙ sym (m .counted-is)) (m .sent-is ∙ sym last) ∙ ap Agreement.Agree (m .sent-is);
+    }
 
-    module _ (number : ℕ) (e : sending ≡ Number number) where
-      number-is : (n : ℕ) → Built file placeTable lefts rights prefixes area n → Room text out work counts → number ≡ length (encode (dictionaryOf file) text)
-      number-is n B room = let f = sym e ∙ sent n B room in cc
+    module _ (out' work' : List ℕ) (sending : Answer) (s : Sends encode file placeTable lefts rights prefixes area text out work out' work' sending) where
+      -- the sender refuses
+      pub send-refused : (cause : Cause) → sending ≡ Refused cause → Agrees file placeTable lefts rights prefixes area text out work counts out' work' counts (Agreement.Refused cause)
+      send-refused cause e =
+          let why : refusal ≡ some cause = refused-answered refusal (s .count) cause (sym (s .answer) ∙ e) in
+          record {
+            sent = 0;
+            counted = 0;
+            typed = 0;
+            answer = sym (ap (λ (o : Option Cause). agreementOf o 0 0 0) why);
+            refused = λ other f. let k = s .refused other f in (k .0, k .1, refl);
+            compared = λ f. some-none refusal cause why f;
+            merged = λ n B f. some-none refusal cause why f;
+            built = λ n B room.
+                some-none refusal cause why (sending-allowed file placeTable lefts rights prefixes area text n B (room .short) out work (room .out-room) (room .work-room));
+          }
 
-      pub all-agree : Agrees file placeTable lefts rights prefixes area text out work counts (Agreement.Agree number)
-      all-agree = record { built = λ n B room. ap Agreement.Agree (number-is n B room) }
+      module _ (number : ℕ) (e : sending ≡ Number number) where
+        sent-given : (refusal ≡ none) × (s .count ≡ number)
+        sent-given = number-answered refusal (s .count) number (sym (s .answer) ∙ e)
 
-      pub typing-differs : (t : ℕ) → TypedCount file placeTable lefts rights prefixes area text counts t → (number ≡ t → ⊥)
-          → Agrees file placeTable lefts rights prefixes area text out work counts Agreement.Differ
-      typing-differs t k d = record { built = λ n B room. absurd (d (number-is n B room ∙ sym (k .built n B (room .short) (room .counts-room)))) }
+        module _ (work'' : List ℕ) (counting : Answer) (c : Counts file placeTable lefts rights prefixes area text work' work'' counting) where
+          abbrev counter-refusal : Option Cause
+          counter-refusal = countRefusal text work' (formOf file placeTable lefts rights prefixes area)
 
-      module _ (work'' : List ℕ) (counting : Answer) (c : Counts file placeTable lefts rights prefixes area text work' work'' counting) where
-        counted : (n : ℕ) → Built file placeTable lefts rights prefixes area n → Room text out work counts → counting ≡ Number (length (encode (dictionaryOf file) text))
-        counted n B room = counts-codes file placeTable lefts rights prefixes area text work' work'' counting c n B (room .short) (work-stays n B room)
+          -- the counter asks for less than the sender, and the sender keeps the work buffer's length
+          count-allowed : counter-refusal ≡ none
+          count-allowed =
+              let held = no-refusal text out work (formOf file placeTable lefts rights prefixes area) (sent-given .0) in
+              let kept = s .written (sent-given .0) .work-length in
+              let room : length text ≤ length work' = omega (arith, held .work-room, kept) in
+              count-as-send text work' (formOf file placeTable lefts rights prefixes area)
+              ∙ not-refused text work' work' (formOf file placeTable lefts rights prefixes area) (held .in-form .0) (held .short) room room (held .in-form .1)
 
-        pub count-refused : (cause : Cause) → counting ≡ Refused cause → Agrees file placeTable lefts rights prefixes area text out work counts (Agreement.Refused cause)
-        count-refused cause f = record { built = λ n B room. absurd (let g = sym (counted n B room) ∙ f in let z : _≡_ {A = ℕ} 0 1 = cc in omega arith) }
+          -- so that it cannot refuse
+          pub count-refused : (cause : Cause) → counting ≡ Refused cause
+              → Agrees file placeTable lefts rights prefixes area text out work counts out' work'' counts (Agreement.Refused cause)
+          count-refused cause f = some-none counter-refusal cause (refused-answered counter-refusal (c .count) cause (sym (c .answer) ∙ f)) count-allowed
 
-        pub count-differs : (k : ℕ) → counting ≡ Number k → (number ≡ k → ⊥) → Agrees file placeTable lefts rights prefixes area text out work counts Agreement.Differ
-        count-differs k f d = record {
-          built = λ n B room. absurd (d (number-is n B room ∙ (let g = sym (counted n B room) ∙ f in let q : length (encode (dictionaryOf file) text) ≡ k = cc in q)));
-        }
+          module _ (k : ℕ) (f : counting ≡ Number k) where
+            count-is : c .count ≡ k
+            count-is = number-answered counter-refusal (c .count) k (sym (c .answer) ∙ f) .1
+
+            both-written : Written file text out work out' work'' (s .count)
+            both-written =
+                let w = s .written (sent-given .0) in
+                let v = c .worked count-allowed in
+                record {
+                  few = w .few;
+                  out-length = w .out-length;
+                  out-beyond = w .out-beyond;
+                  codes = w .codes;
+                  work-length = v .work-length ∙ w .work-length;
+                  work-beyond = v .work-beyond ∙ w .work-beyond;
+                }
+
+            -- over tables that a build left both have the merge procedure's number
+            both-merged : (n : ℕ) → Built file placeTable lefts rights prefixes area n → s .count ≡ c .count
+            both-merged n B = s .built n B (sent-given .0) .0 ∙ sym (c .built n B count-allowed)
+
+            -- sender and counter differ: nothing is typed
+            pub count-differs : (number ≡ k → ⊥) → Agrees file placeTable lefts rights prefixes area text out work counts out' work'' counts Agreement.Differ
+            count-differs d =
+                let differ : s .count ≡ c .count → ⊥ = λ q. d (sym (sent-given .1) ∙ q ∙ count-is) in
+                compared-agrees out' work'' counts Agreement.Differ (s .count) (c .count) 0 (sent-given .0)
+                (sym (other-count refusal (s .count) (c .count) 0 (sent-given .0) differ))
+                (record { written = both-written; few-counted = c .few count-allowed; few-typed = omega arith; counts-length = refl; counts-beyond = refl; counts-kept = λ q. refl })
+                (λ n B. absurd (differ (both-merged n B)))
+
+            module _ (same : number ≡ k) (counts' : List ℕ) (t : ℕ) (typing : TypedCount file placeTable lefts rights prefixes area text counts counts' t) where
+              same-numbers : s .count ≡ c .count
+              same-numbers = sent-given .1 ∙ same ∙ sym count-is
+
+              -- the text was typed
+              all-typed : (r : Agreement) → r ≡ agreementOf refusal (s .count) (c .count) (lastCount (typing .typed) counts')
+                  → Agrees file placeTable lefts rights prefixes area text out work counts out' work'' counts' r
+              all-typed r is =
+                  let held = no-refusal text out work (formOf file placeTable lefts rights prefixes area) (sent-given .0) in
+                  let x = typing .text-typed in
+                  compared-agrees out' work'' counts' r (s .count) (c .count) (typing .typed) (sent-given .0) is
+                  (record {
+                    written = both-written;
+                    few-counted = c .few count-allowed;
+                    few-typed = let q = x .at-most in omega (arith, q);
+                    counts-length = x .size-kept;
+                    counts-beyond = x .beyond-kept;
+                    counts-kept = λ d. absurd (d same-numbers);
+                  })
+                  (λ n B.
+                  let b = s .built n B (sent-given .0) in
+                  record {
+                    sent-is = b .0;
+                    counted-is = c .built n B count-allowed;
+                    codes = b .1;
+                    typed-is = let q = x .typed n B in omega (arith, q, held .short);
+                    counts-are = x .counted n B;
+                  })
+
+              pub typing-differs : (number ≡ t → ⊥) → Agrees file placeTable lefts rights prefixes area text out work counts out' work'' counts' Agreement.Differ
+              typing-differs d =
+                  all-typed Agreement.Differ
+                  (sym (other-last refusal (s .count) (c .count) (lastCount (typing .typed) counts') (sent-given .0) same-numbers (λ q. d (sym (sent-given .1) ∙ q ∙ sym (typing .is)))))
+
+              pub all-agree : number ≡ t → Agrees file placeTable lefts rights prefixes area text out work counts out' work'' counts' (Agreement.Agree number)
+              all-agree q =
+                  all-typed (Agreement.Agree number)
+                  (ap Agreement.Agree (sym (sent-given .1))
+                  ∙ sym (all-same refusal (s .count) (c .count) (lastCount (typing .typed) counts') (sent-given .0) same-numbers (sent-given .1 ∙ q ∙ typing .is)))

@@ -24,7 +24,7 @@ fn typed_count(
     text: &[u8],
     counts: &mut [u32],
 ) -> usize
-    ensures { λ r. ⌜ TypedCount (now (file .entry)) (now (places .entry)) (now (lefts .entry)) (now (rights .entry)) (now (prefixes .entry)) (now (area .entry)) (now (text .entry)) (now (counts .entry)) r ⌝ }
+    ensures { λ r. ⌜ TypedCount (now (file .entry)) (now (places .entry)) (now (lefts .entry)) (now (rights .entry)) (now (prefixes .entry)) (now (area .entry)) (now (text .entry)) (now (counts .entry)) (now (counts .exit)) r ⌝ }
 {
     let typed = typing::type_text(
         Side::Append,
@@ -43,7 +43,8 @@ fn typed_count(
     wide(counts[typed - 1])
 }
 
-// Sends the text, counts it and types it, and says whether the three numbers of codes are the same.
+// Sends the text, counts it and types it, and says whether the three numbers of codes are the same. Refused is what the sender refuses; the counter, which asks
+// for less, refuses nothing then.
 pub fn sender_against_counters(
     file: &[u8],
     places: &[u32],
@@ -56,7 +57,7 @@ pub fn sender_against_counters(
     work: &mut [u32],
     counts: &mut [u32],
 ) -> Agreement
-    ensures { λ r. ⌜ Agrees (now (file .entry)) (now (places .entry)) (now (lefts .entry)) (now (rights .entry)) (now (prefixes .entry)) (now (area .entry)) (now (text .entry)) (now (out .entry)) (now (work .entry)) (now (counts .entry)) r ⌝ }
+    ensures { λ r. ⌜ Agrees (now (file .entry)) (now (places .entry)) (now (lefts .entry)) (now (rights .entry)) (now (prefixes .entry)) (now (area .entry)) (now (text .entry)) (now (out .entry)) (now (work .entry)) (now (counts .entry)) (now (out .exit)) (now (work .exit)) (now (counts .exit)) r ⌝ }
 {
     let sending = byte_pair_encoding::encode_via_backtracking(
         file,

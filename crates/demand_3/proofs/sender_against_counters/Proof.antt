@@ -62,7 +62,7 @@ same-length-9 : tie.Need-same-length-9
 same-length-9 c = search needs
 
 returns-4 : tie.Need-returns-4
-returns-4 c = typing-differs _ _ _ _ _ _ _ _ _ _ _ _ _ (c .before .before .before .before .before .before .before .before .before .before .before .before .before .before .before .before .before .before .before .before .encode-via-backtracking .ensures) _ (c .before .before .before .before .before .before .before .before .before .before .before .before .before .before .sending .given .1) _ (c .before .before .before .typed-count .ensures) (c .if2 .taken)
+returns-4 c = typing-differs _ _ _ _ _ _ _ _ _ _ _ _ _ (c .before .before .before .before .before .before .before .before .before .before .before .before .before .before .before .before .before .before .before .before .encode-via-backtracking .ensures) _ (c .before .before .before .before .before .before .before .before .before .before .before .before .before .before .sending .given .1) _ _ (c .before .before .before .before .before .before .before .before .before .before .before .count .ensures) _ (c .before .before .before .before .before .before .before .counting .given .1) (c .before .before .before .before .before .if1 .left) _ _ (c .before .before .before .typed-count .ensures) (c .if2 .taken)
 
 same-length-10 : tie.Need-same-length-10
 same-length-10 c = search needs
@@ -74,7 +74,7 @@ same-length-12 : tie.Need-same-length-12
 same-length-12 c = search needs
 
 returns-5 : tie.Need-returns-5
-returns-5 c = all-agree _ _ _ _ _ _ _ _ _ _ _ _ _ (c .before .before .before .before .before .before .before .before .before .before .before .before .before .before .before .before .before .before .before .before .encode-via-backtracking .ensures) _ (c .before .before .before .before .before .before .before .before .before .before .before .before .before .before .sending .given .1)
+returns-5 c = all-agree _ _ _ _ _ _ _ _ _ _ _ _ _ (c .before .before .before .before .before .before .before .before .before .before .before .before .before .before .before .before .before .before .before .before .encode-via-backtracking .ensures) _ (c .before .before .before .before .before .before .before .before .before .before .before .before .before .before .sending .given .1) _ _ (c .before .before .before .before .before .before .before .before .before .before .before .count .ensures) _ (c .before .before .before .before .before .before .before .counting .given .1) (c .before .before .before .before .before .if1 .left) _ _ (c .before .before .before .typed-count .ensures) (c .if2 .left)
 
 pub sender-against-counters-spec : {M : Type 1} → statement M
 sender-against-counters-spec =

@@ -1,4 +1,4 @@
--- `demand_3::typed_count` meets its contract: the count after the last byte typed is that of the whole text. Assumes nothing.
+-- `demand_3::typed_count` meets its contract: the count after the last byte typed, 0 if none was. Assumes nothing.
 use Rattle.demand_3.proofs.Agreeing.{typed-none, typed-last}
 use borrow.Author.Needs.{needs}
 use Rattle.demand_3.proofs.typed_count.Statement.{statement}

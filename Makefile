@@ -1,12 +1,11 @@
 # Both commands need the Rattle kit (rt) on the PATH, and nothing else.
 .PHONY: demo test
 
-# The main job, on the commands of demo.txt (crates/commands/README.md lists what they mean).
+# The main job: builds the tool, makes the season's phrase file, checks it, encodes a message and writes its page.
 demo:
-	@echo "proving the library and the program (some minutes from nothing) ..."
-	@rt check samples > /dev/null || { echo "rt check samples failed: run it to see where"; exit 1; }
-	@while IFS= read -r line; do echo "> $$line"; done < demo.txt
-	@target/bin/samples < demo.txt
+	@echo "proving the library and building the tool (some minutes from nothing) ..."
+	@rt check phrases > /dev/null || { echo "rt check phrases failed: run it to see where"; exit 1; }
+	@sh tools/demo.sh
 
 # The gate.
 test:

@@ -4,6 +4,7 @@ use mathlib.Core.Logic.{_⊎_, inl, inr, ⊎-elim}
 use mathlib.Core.List.{List}
 use mathlib.Core.Bool.{Bool, true, false, not, _&&_}
 use Prim.Native.Nat.{ℕ, zero, suc, _+_, _-_, _*_, _≤_, _<_}
+use native.Mathlib.Decide.{decLt}
 use native.Mathlib.Omega.{arith}
 use lib.ListN.{length}
 use lib.Dec.{ltb}
@@ -20,7 +21,7 @@ use Rattle.backtrack_encoder.specs.Steps.{Stepped}
 use Rattle.backtrack_encoder.specs.Answers.{limitedOf, LimitedIs}
 use Rattle.backtrack_encoder.proofs.Stack.{stack-length}
 use Rattle.backtrack_encoder.proofs.Stepping.{run-more, shows-end, shows-more}
-use Rattle.backtrack_encoder.proofs.Running.{done, Running, running-step}
+use Rattle.backtrack_encoder.proofs.Running.{done, Running, running-step, running-few}
 
 -- the answer for a final count
 pub within-over : (D : Dictionary) (text : List ℕ) (limit n : ℕ) → limit < n → over ≡ final D text limit n
@@ -28,6 +29,22 @@ within-over D text limit n h = sym (rw (lt-ltb limit n h, final))
 
 pub within-count : (D : Dictionary) (text : List ℕ) (limit n : ℕ) → n ≤ limit → counted n ≡ final D text limit n
 within-count D text limit n h = sym (rw (le-ltb limit n h, final))
+
+-- a count is not "over"
+over-counted : (k : ℕ) → over ≡ counted k → ⊥
+over-counted k e = let z : _≡_ {A = ℕ} 0 1 = cc in omega arith
+
+-- a count that is answered is the final one, and does not pass the limit
+final-counted : (D : Dictionary) (text : List ℕ) (limit n k : ℕ) → final D text limit n ≡ counted k → (k ≡ n) × (k ≤ limit)
+final-counted D text limit n k e = go (decLt limit n)
+  where
+    go : Dec (limit < n) → (k ≡ n) × (k ≤ limit)
+    go (yes h) = absurd (over-counted k (within-over D text limit n h ∙ e))
+    go (no h) =
+        let m : n ≤ limit = omega arith in
+        let i : counted n ≡ counted k = within-count D text limit n m ∙ e in
+        let j : k ≡ n = cc in
+        (j, omega arith)
 
 and-false : (a b : Bool) → (a ≡ false) ⊎ (b ≡ false) → a && b ≡ false
 and-false false b o = refl
@@ -81,6 +98,11 @@ module _ (file places lefts rights prefixes area : List ℕ) (n : ℕ) (text ent
     pub limiting-end : (r : Limited) → (left ≡ 0) ⊎ (e .next ≡ none) → ((D : Dictionary) (text : List ℕ) → limitedOf r ≡ final D text limit (e .count))
         → LimitedIs file places lefts rights prefixes area n text limit entry r work
     limiting-end r o f = record {
+      few = λ k c.
+          let q = final-counted D text limit (e .count) k (sym (f D text) ∙ c) in
+          let j = q .0 in
+          let h = running-few file places lefts rights prefixes area n text entry left e work dead (W .running) in
+          (omega arith, q .1);
       work-length = W .running .kept;
       work-beyond = W .running .beyond;
       built = λ B. f D text ∙ ap (final D text limit) (sym (count-is B)) ∙ sym (all B) ∙ W .answer B;
@@ -112,6 +134,7 @@ module _ (file places lefts rights prefixes area : List ℕ) (n : ℕ) (text ent
       -- the count after the step passes limit + 10, and the text is not finished
       pub limiting-over : (r .next ≡ none → ⊥) → buffered D text limit < r .count → LimitedIs file places lefts rights prefixes area n text limit entry Over work'
       limiting-over y h = record {
+        few = λ k c. absurd (over-counted k c);
         work-length = next .kept;
         work-beyond = next .beyond;
         built = λ B.

@@ -66,19 +66,20 @@ module _ (file places lefts rights prefixes area : List ℕ) (n : ℕ) (text ent
       shows = λ B. let q = U .steps in let z : done (left - 1) ≡ suc (done left) = omega arith in rw z (K .built B (done left) (U .shows B));
     }
 
-    few : e .count ≤ length text
-    few = count-text file places n (U .text-ready .tables .places-ready) text e work (U .ready)
+    -- no more codes than bytes
+    pub running-few : e .count ≤ length text
+    running-few = count-text file places n (U .text-ready .tables .places-ready) text e work (U .ready)
 
     -- the codes at the end
     pub running-end : Bytes text → (left ≡ 0) ⊎ (e .next ≡ none) → Backtracked file places lefts rights prefixes area n text entry (e .count) work
     running-end b o = record {
-      few = few;
+      few = running-few;
       work-length = U .kept;
       work-beyond = U .beyond;
       codes = U .ready .codes;
       built = λ B.
           let q = U .text-ready .room in
-          let f = few in
+          let f = running-few in
           sym (stack-codes work (e .count) (omega arith)) ∙ ap codes (sym (U .shows B .stack)) ∙ all B;
     }
       where

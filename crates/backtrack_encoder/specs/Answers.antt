@@ -48,8 +48,9 @@ module _ (file places lefts rights prefixes area : List ℕ) (n : ℕ) (text : L
     pub work-beyond : drop (length text) work' ≡ drop (length text) work
     pub built : Built file places lefts rights prefixes area n → r ≡ length (encode (dictionaryOf file) text)
 
-  -- the count, or "over"
+  -- the count, or "over"; a count is no more than the text's length, and does not pass the limit
   pub record LimitedIs (limit : ℕ) (work : List ℕ) (r : Limited) (work' : List ℕ) : Type 0 where
+    pub few : (count : ℕ) → limitedOf r ≡ Backtracking.counted count → (count ≤ length text) × (count ≤ limit)
     pub work-length : length work' ≡ length work
     pub work-beyond : drop (length text) work' ≡ drop (length text) work
     pub built : Built file places lefts rights prefixes area n → limitedOf r ≡ Backtracking.countTillLimit (dictionaryOf file) text limit

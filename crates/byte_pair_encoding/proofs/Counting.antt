@@ -47,6 +47,7 @@ module _ (file placeTable lefts rights prefixes area text work : List ℕ) where
       limited = over;
       answer = rw told;
       refused = λ d f. refl;
+      few = λ f. absurd (some-none cause (sym told ∙ f));
       worked = λ f. absurd (some-none cause (sym told ∙ f));
       built = λ n B f. absurd (some-none cause (sym told ∙ f));
     }
@@ -79,6 +80,7 @@ module _ (file placeTable lefts rights prefixes area text work : List ℕ) where
       limited = Answers.limitedOf l;
       answer = rw not-refused a;
       refused = λ d f. absurd (some-none d (sym f ∙ not-refused));
+      few = λ f. s .few;
       worked = λ f. record { work-length = s .work-length; work-beyond = s .work-beyond };
       built = λ m B f.
           let q = s .built (built-count file placeTable lefts rights prefixes area m n (p .count) B) in

@@ -6,7 +6,7 @@ use Prim.Native.Nat.{ℕ, _≤_}
 use lib.ListN.{length, drop}
 use Rattle.causes.specs.declared.Cause.{Cause}
 use Rattle.theory.specs.Merge.{encode}
-use Rattle.theory.specs.Backtracking.{Limited, countTillLimit}
+use Rattle.theory.specs.Backtracking.{Limited, counted, countTillLimit}
 use Rattle.tables.specs.declared.Answer.{Answer}
 use Rattle.tables.specs.InForm.{formOf}
 use Rattle.answers.specs.Answers.{answered}
@@ -31,12 +31,15 @@ pub record Counts (file placeTable lefts rights prefixes area text work work' : 
   pub built : (n : ℕ) → Built file placeTable lefts rights prefixes area n → countRefusal text work (formOf file placeTable lefts rights prefixes area) ≡ none
       → count ≡ length (encode (dictionaryOf file) text)
 
--- `count_till_limit`: a refusal (9, 7, 8) leaves the work buffer as it was; else the answer is a count or "over", and over tables that build left
--- it is the definition's, also by document 01's number and value. Which of the two it is, and which number, is free where no build left the tables
+-- `count_till_limit`: a refusal (9, 7, 8) leaves the work buffer as it was; else the answer is "over" or a count that is no more than the text's length
+-- and than the limit, and over tables that build left it is the definition's, also by document 01's number and value. Which of the two it is, and which
+-- such number, is free where no build left the tables
 pub record CountsTillLimit (file placeTable lefts rights prefixes area text : List ℕ) (limit : ℕ) (work work' : List ℕ) (r : LimitAnswer) : Type 0 where
   pub limited : Limited
   pub answer : r ≡ limitAnswered (countRefusal text work (formOf file placeTable lefts rights prefixes area)) limited
   pub refused : (cause : Cause) → countRefusal text work (formOf file placeTable lefts rights prefixes area) ≡ some cause → work' ≡ work
+  pub few : countRefusal text work (formOf file placeTable lefts rights prefixes area) ≡ none
+      → (count : ℕ) → limited ≡ counted count → (count ≤ length text) × (count ≤ limit)
   pub worked : countRefusal text work (formOf file placeTable lefts rights prefixes area) ≡ none → Worked text work work'
   pub built : (n : ℕ) → Built file placeTable lefts rights prefixes area n → countRefusal text work (formOf file placeTable lefts rights prefixes area) ≡ none
       → (limited ≡ countTillLimit (dictionaryOf file) text limit) × (limitAnswerOf r ≡ limitedValue (countTillLimit (dictionaryOf file) text limit))

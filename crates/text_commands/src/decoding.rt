@@ -1,0 +1,117 @@
+// `phrases decode FILE TEXT`
+use causes::Cause;
+use code_list::Codes;
+use code_list::Listed;
+use code_list::list_codes;
+use code_list::run;
+use refusal_words::say_cause;
+use refusal_words::say_cause_result;
+use tables::Answer;
+use tool_files::say_argument;
+use tool_files::say_error_result;
+use tool_files::say_many;
+use words::back;
+use words::front;
+use words::front_numbers;
+use words::say;
+use words::say_number;
+use words::say_quoted;
+
+// A word that is no number.
+fn say_wrong(name: &[u8], text: &[u8], at: usize) {
+    let left = back(text, at);
+    say_argument(b"TEXT", name);
+    say_quoted(front(left, run(left, false)));
+    say(b" is no number; give codes, as encode prints them");
+    say_error_result(b"TEXT");
+}
+
+// A code at an index of a list, 0 beyond it.
+fn code_at(codes: &[u32], index: usize) -> u64 {
+    if index < codes.len() {
+        return words::wide(codes[index]);
+    }
+    0
+}
+
+// A refusal.
+fn say_undecoded(cause: Cause, file: &[u8], codes: &[u32]) {
+    say_cause(cause);
+    match cause {
+        Cause::TooLong => say(b"there are more than 4096 codes; cut the list"),
+        Cause::UnknownCode(index) => {
+            say(b"code ");
+            say_number(code_at(codes, index));
+            say(b" is no row: the file has ");
+            say_many(phrase_file::num_rows(file), b"row");
+            say(b", numbered from 0");
+        }
+        _ => say(b"the codes cannot be decoded"),
+    }
+    say_cause_result(cause);
+}
+
+// The decoded bytes as they are, and the line for a script.
+fn say_decoded(bytes: &[u8; 262144], size: usize, count: usize) {
+    say(front(bytes, size));
+    say(b"\nresult: decoded codes=");
+    say_number(count as u64);
+    say(b" bytes=");
+    say_number(size as u64);
+    say(b"\n");
+}
+
+// Decodes the codes at the front of a buffer.
+fn decode_codes(
+    file: &[u8],
+    places: &[u32],
+    lefts: &[u32],
+    rights: &[u32],
+    prefixes: &[u32],
+    area: &[u32],
+    buffer: &Codes,
+    count: usize,
+) {
+    let codes = front_numbers(buffer, count);
+    let mut bytes = [0u8; 262144];
+    match decoder::decode_tokens(
+        file,
+        places,
+        lefts,
+        rights,
+        prefixes,
+        area,
+        codes,
+        &mut bytes,
+    ) {
+        Answer::Number(size) => say_decoded(&bytes, size, count),
+        Answer::Refused(cause) => say_undecoded(cause, file, codes),
+    }
+}
+
+// The command.
+pub fn decode(
+    file: &[u8],
+    places: &[u32],
+    lefts: &[u32],
+    rights: &[u32],
+    prefixes: &[u32],
+    area: &[u32],
+    name: &[u8],
+    text: &[u8],
+) {
+    let mut codes = [0u32; 4097];
+    match list_codes(text, &mut codes) {
+        Listed::Codes(count) => decode_codes(
+            file,
+            places,
+            lefts,
+            rights,
+            prefixes,
+            area,
+            &codes,
+            count,
+        ),
+        Listed::Wrong(at) => say_wrong(name, text, at),
+    }
+}

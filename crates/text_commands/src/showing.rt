@@ -1,0 +1,67 @@
+// `phrases show FILE TEXT OUT`
+use crate::sending::Sent;
+use crate::sending::told;
+use tool_files::Written;
+use tool_files::say_bursts;
+use tool_files::say_failed;
+use tool_files::say_fields;
+use tool_files::write_named;
+use words::front;
+use words::front_numbers;
+use words::say;
+use words::say_quoted;
+
+// Writes the page of the codes at the front of a buffer, and says so.
+fn write_page(
+    file: &[u8],
+    places: &[u32],
+    size: usize,
+    buffer: &[u32; 4096],
+    count: usize,
+    out: &[u8],
+) {
+    let codes = front_numbers(buffer, count);
+    let mut page = [0u8; 524288];
+    let end = page::put_page(&mut page, size, file, places, codes);
+    match write_named(out, front(&page, end)) {
+        Written::Done => {
+            say_quoted(out);
+            say(b": ");
+            say_bursts(codes.len());
+            say(b"\nresult: shown");
+            say_fields(codes.len());
+            say(b"\n");
+        }
+        Written::Failed(error) => say_failed(b"OUT", out, error),
+    }
+}
+
+// The command.
+pub fn show(
+    file: &[u8],
+    places: &[u32],
+    lefts: &[u32],
+    rights: &[u32],
+    prefixes: &[u32],
+    area: &[u32],
+    text: &[u8],
+    out: &[u8],
+) {
+    let mut codes = [0u32; 4096];
+    let mut work = [0u32; 4096];
+    let answer = byte_pair_encoding::encode_via_backtracking(
+        file,
+        places,
+        lefts,
+        rights,
+        prefixes,
+        area,
+        text,
+        &mut codes,
+        &mut work,
+    );
+    let Sent::Codes(count) = told(answer, file) else {
+        return;
+    };
+    write_page(file, places, text.len(), &codes, count, out);
+}

@@ -1,0 +1,124 @@
+// Parts of a text. A part that is not there is empty, so that no function here asks anything of its caller but `after`.
+ghost use Prim.Native.Nat.{_<_};
+
+// The part of s from a place up to another one, or nothing where there is no such part.
+pub fn part(s: &[u8], from: usize, to: usize) -> &[u8] {
+    if to < from {
+        return &s[0..0];
+    }
+    if s.len() < to {
+        return &s[0..0];
+    }
+    &s[from..to]
+}
+
+// The first k bytes, or all if there are fewer.
+pub fn front(s: &[u8], k: usize) -> &[u8] {
+    if s.len() < k {
+        return s;
+    }
+    &s[0..k]
+}
+
+// What follows the first k bytes.
+pub fn back(s: &[u8], k: usize) -> &[u8] {
+    part(s, k, s.len())
+}
+
+// The first k numbers, or all if there are fewer.
+pub fn front_numbers(s: &[u32], k: usize) -> &[u32] {
+    if s.len() < k {
+        return s;
+    }
+    &s[0..k]
+}
+
+// The first k bytes to write to, or all if there are fewer.
+pub fn lent(s: &mut [u8], k: usize) -> &mut [u8] {
+    if s.len() < k { s } else { &mut s[0..k] }
+}
+
+// How many bytes stand before the first one of this value; all of them if there is none.
+pub fn count_before(s: &[u8], byte: u8) -> usize {
+    let mut i = 0;
+    while i < s.len() {
+        if s[i] == byte {
+            return i;
+        }
+        i += 1;
+    }
+    i
+}
+
+// Those bytes, from a place on.
+pub fn until(s: &[u8], from: usize, byte: u8) -> &[u8] {
+    let left = back(s, from);
+    front(left, count_before(left, byte))
+}
+
+// The place after the first byte of this value from a place on; the length if there is none.
+pub fn after(s: &[u8], from: usize, byte: u8) -> usize
+    requires { do ⌜ from < (← ⟦s.len()⟧) ⌝ }
+    ensures { λ r. ⌜ from < r ⌝ }
+{
+    let count = count_before(back(s, from), byte);
+    if s.len() - from <= count {
+        return s.len();
+    }
+    from + count + 1
+}
+
+// Whether a word is this one.
+pub fn is(word: &[u8], name: &[u8]) -> bool {
+    check::same(word, name)
+}
+
+// Whether a text begins with this one.
+pub fn begins(text: &[u8], start: &[u8]) -> bool {
+    check::same(front(text, start.len()), start)
+}
+
+// Writes a byte at a place, if there is room, and gives the next place.
+pub fn put(out: &mut [u8], at: usize, byte: u8) -> usize {
+    if at < out.len() {
+        out[at] = byte;
+        return at + 1;
+    }
+    at
+}
+
+// Writes bytes from a place on, as far as there is room, and gives the place behind them.
+pub fn put_all(out: &mut [u8], at: usize, bytes: &[u8]) -> usize {
+    let mut end = at;
+    let mut i = 0;
+    while i < bytes.len() {
+        end = put(out, end, bytes[i]);
+        i += 1;
+    }
+    end
+}
+
+// How many words a command line has. Each word ends with a byte 0, which no argument of a program holds.
+pub fn word_count(line: &[u8]) -> usize {
+    let mut count = 0;
+    let mut at = 0;
+    while at < line.len() {
+        at = after(line, at, 0);
+        count += 1;
+    }
+    count
+}
+
+// A word of a command line, counted from 0; nothing if there is none.
+pub fn word(line: &[u8], i: usize) -> &[u8] {
+    let mut left = i;
+    let mut at = 0;
+    while at < line.len() {
+        if left == 0 {
+            return until(line, at, 0);
+        }
+        at = after(line, at, 0);
+        left -= 1;
+    }
+    back(line, line.len())
+}

@@ -289,6 +289,14 @@ fn read_some(input: i32, buffer: &mut Bytes) -> usize {
     io::count(got, buffer)
 }
 
+// Whether the first byte of what was read ends the input: Control-D, from a terminal that hands over each byte.
+fn ends(each: bool, byte: u8) -> bool {
+    if each {
+        return byte == 4;
+    }
+    false
+}
+
 // Reads and types until the input ends. A proved loop has to end, and nothing says that an input does: turns are counted down from a number that
 // no run uses up.
 fn type_input(
@@ -315,6 +323,9 @@ fn type_input(
     while turns > 0 {
         let size = read_some(input, &mut buffer);
         if size == 0 {
+            return typed;
+        }
+        if ends(each, buffer[0]) {
             return typed;
         }
         typed = type_buffer(

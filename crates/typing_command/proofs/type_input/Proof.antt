@@ -19,6 +19,15 @@ read-some-requires c κs = search needs
 returns : tie.Need-returns Inv-loop μ-loop
 returns c = search needs
 
+array-read-ends : tie.Need-array-read-ends Inv-loop μ-loop
+array-read-ends c = search needs
+
+ends-requires : tie.Need-ends-requires Inv-loop μ-loop
+ends-requires c κs = search needs
+
+returns-2 : tie.Need-returns-2 Inv-loop μ-loop
+returns-2 c = search needs
+
 type-buffer-requires : tie.Need-type-buffer-requires Inv-loop μ-loop
 type-buffer-requires c κs = search needs
 
@@ -31,8 +40,8 @@ loop-less c = search needs
 loop-again : tie.Need-loop-again Inv-loop μ-loop
 loop-again c = search needs
 
-returns-2 : tie.Need-returns-2 Inv-loop μ-loop
-returns-2 c = search needs
+returns-3 : tie.Need-returns-3 Inv-loop μ-loop
+returns-3 c = search needs
 
 pub type-input-spec : {M : Type 1} → statement M
 type-input-spec =
@@ -43,8 +52,11 @@ type-input-spec =
     loop-holds
     read-some-requires
     returns
+    array-read-ends
+    ends-requires
+    returns-2
     type-buffer-requires
     sub-turns
     loop-less
     loop-again
-    returns-2)
+    returns-3)

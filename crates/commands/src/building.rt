@@ -2,6 +2,12 @@
 use crate::canary::cleared;
 use crate::canary::fill;
 use crate::canary::kept;
+use crate::fields::entry;
+use crate::fields::field;
+use crate::fields::number;
+use crate::fields::rest;
+use crate::fields::say_field;
+use crate::fields::size;
 use crate::names::BUILD;
 use crate::names::ENTRIES;
 use crate::names::LENGTH;
@@ -19,18 +25,12 @@ use crate::sizes::SearchArea;
 use crate::sizes::Sizes;
 use crate::sizes::Table;
 use crate::sizes::lent;
-use crate::words::entry;
-use crate::words::field;
-use crate::words::front;
-use crate::words::number;
-use crate::words::rest;
-use crate::words::say;
-use crate::words::say_number;
-use crate::words::size;
-use crate::words::wide;
 use causes::BuildAnswer;
 use pair_check::PairAnswer;
 use tables::Answer;
+use words::front;
+use words::say;
+use words::wide;
 
 // Says what a build did to a buffer of which it fills the first n numbers.
 fn say_state(buffer: &[u32], n: usize) {
@@ -96,8 +96,8 @@ fn build(
     fill(prefixes);
     fill(area);
     let answer = build_lent(file, factor, sizes, places, lefts, rights, prefixes, area);
-    say_number(causes::build_answer_number(answer) as u64);
-    say_number(causes::build_answer_place(answer));
+    say_field(causes::build_answer_number(answer) as u64);
+    say_field(causes::build_answer_place(answer));
     let n = count(file);
     say_state(places, n);
     say_state(lefts, n);
@@ -124,11 +124,11 @@ fn put_entry(table: &mut [u32], i: usize, value: u32) {
 
 // `entries ROW`: its place, left part, right part and prefix.
 fn say_entries(row: usize, places: &[u32], lefts: &[u32], rights: &[u32], prefixes: &[u32]) {
-    say_number(row as u64);
-    say_number(at(places, row));
-    say_number(at(lefts, row));
-    say_number(at(rights, row));
-    say_number(at(prefixes, row));
+    say_field(row as u64);
+    say_field(at(places, row));
+    say_field(at(lefts, row));
+    say_field(at(rights, row));
+    say_field(at(prefixes, row));
     say(b"\n");
 }
 
@@ -159,20 +159,20 @@ fn set_entry(
 
 // The number and the place of an answer.
 pub fn say_answer(answer: Answer) {
-    say_number(answers::answer_number(answer) as u64);
-    say_number(answers::answer_place(answer));
+    say_field(answers::answer_number(answer) as u64);
+    say_field(answers::answer_place(answer));
 }
 
 // The same of the pair check: 1 if the pair passes, else 0.
 fn say_pair(answer: PairAnswer) {
     match answer {
         PairAnswer::Passes(passes) => {
-            say_number(0);
-            say_number(if passes { 1 } else { 0 });
+            say_field(0);
+            say_field(if passes { 1 } else { 0 });
         }
         PairAnswer::Refused(cause) => {
-            say_number(causes::cause_number(cause) as u64);
-            say_number(causes::cause_place(cause));
+            say_field(causes::cause_number(cause) as u64);
+            say_field(causes::cause_place(cause));
         }
     }
     say(b"\n");

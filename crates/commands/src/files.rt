@@ -1,11 +1,11 @@
 // Commands that write the phrase file.
+use crate::fields::unescape;
 use crate::names::EMPTY;
 use crate::names::LETTERS;
 use crate::names::PAIRS;
 use crate::names::RAW;
 use crate::names::ROW;
-use crate::words::put;
-use crate::words::unescape;
+use words::put;
 
 // A mark and a length byte.
 fn put_mark(file: &mut [u8], at: usize, size: u8) -> usize {
@@ -51,10 +51,10 @@ pub fn write(command: usize, line: &[u8], file: &mut [u8], size: usize) -> usize
         return 0;
     }
     if command == LETTERS {
-        return put_numbers(file, size, 1, crate::words::size(line));
+        return put_numbers(file, size, 1, crate::fields::size(line));
     }
     if command == PAIRS {
-        return put_numbers(file, size, 2, crate::words::size(line));
+        return put_numbers(file, size, 2, crate::fields::size(line));
     }
     if command == ROW {
         return put_row(file, size, line);

@@ -2,12 +2,16 @@
 // the library prints its answer, and whether the lent buffers hold what document 01 says beside it. README.md lists the commands.
 mod building;
 mod canary;
+mod fields;
 mod files;
 mod names;
 mod sending;
 mod sizes;
-mod words;
 
+use fields::END;
+use fields::field;
+use fields::read_line;
+use fields::rest;
 use names::BITFIELD;
 use names::NO_COMMAND;
 use sizes::AREA;
@@ -21,12 +25,8 @@ use sizes::SearchArea;
 use sizes::Sizes;
 use sizes::TEXT;
 use sizes::Table;
-use words::END;
-use words::field;
 use words::front;
 use words::front_numbers;
-use words::read_line;
-use words::rest;
 use words::say;
 
 // Does a command that writes the file, the text, the codes or the sizes, if it is one.
@@ -97,12 +97,12 @@ fn obey(
     codes: &mut Table,
 ) {
     let command = names::command(field(line));
-    let words = rest(line);
+    let arguments = rest(line);
     say_name(command, field(line));
-    write(command, words, file, sizes, text, codes);
+    write(command, arguments, file, sizes, text, codes);
     building::obey(
         command,
-        words,
+        arguments,
         file,
         *sizes,
         places,
@@ -113,7 +113,7 @@ fn obey(
     );
     read(
         command,
-        words,
+        arguments,
         file,
         *sizes,
         places,

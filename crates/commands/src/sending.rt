@@ -5,6 +5,12 @@ use crate::canary::CANARY;
 use crate::canary::fill;
 use crate::canary::kept;
 use crate::canary::kept_bytes;
+use crate::fields::entry;
+use crate::fields::number;
+use crate::fields::rest;
+use crate::fields::say_field;
+use crate::fields::size;
+use crate::fields::unescape;
 use crate::names;
 use crate::sizes::BYTES;
 use crate::sizes::OUTPUT;
@@ -12,19 +18,13 @@ use crate::sizes::Sizes;
 use crate::sizes::WORK;
 use crate::sizes::lent;
 use crate::sizes::lent_bytes;
-use crate::words::after;
-use crate::words::entry;
-use crate::words::front;
-use crate::words::front_numbers;
-use crate::words::number;
-use crate::words::part;
-use crate::words::rest;
-use crate::words::say;
-use crate::words::say_number;
-use crate::words::size;
-use crate::words::unescape;
-use crate::words::wide;
 use tables::Answer;
+use words::after;
+use words::front;
+use words::front_numbers;
+use words::part;
+use words::say;
+use words::wide;
 
 // The bytes written so many times.
 fn repeat(line: &[u8], times: usize, text: &mut [u8]) -> usize {
@@ -180,7 +180,7 @@ fn scratch(answer: Answer, text: &[u8]) -> usize {
 fn say_codes(codes: &[u32]) {
     let mut i = 0;
     while i < codes.len() {
-        say_number(wide(codes[i]));
+        say_field(wide(codes[i]));
         i += 1;
     }
 }
@@ -281,8 +281,8 @@ fn count_till_limit(
         lent(&mut work, sizes[WORK]),
     );
     let number = byte_pair_encoding::limit_answer_number(answer) as u64;
-    say_number(number);
-    say_number(byte_pair_encoding::limit_answer_place(answer));
+    say_field(number);
+    say_field(byte_pair_encoding::limit_answer_place(answer));
     if number == 0 {
         say_kept(kept(&work, text.len()));
     } else {

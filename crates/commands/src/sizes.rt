@@ -1,9 +1,9 @@
 // How many numbers or bytes of each buffer are lent, and how many are written.
+use crate::fields::field;
+use crate::fields::rest;
+use crate::fields::size;
 use crate::names::LEND;
-use crate::words::field;
-use crate::words::is;
-use crate::words::rest;
-use crate::words::size;
+use words::is;
 
 // Buffers of numbers: a table or a list of codes, and the search area.
 pub type Table = [u32; 4200];

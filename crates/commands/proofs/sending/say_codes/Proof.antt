@@ -23,8 +23,8 @@ shared-slice-read-wide c = search needs
 wide-requires : tie.Need-wide-requires Inv-loop μ-loop
 wide-requires c κs = search needs
 
-say-number-requires : tie.Need-say-number-requires Inv-loop μ-loop
-say-number-requires c κs = search needs
+say-field-requires : tie.Need-say-field-requires Inv-loop μ-loop
+say-field-requires c κs = search needs
 
 add-i : tie.Need-add-i Inv-loop μ-loop
 add-i c = search needs
@@ -48,7 +48,7 @@ say-codes-spec =
     mul-wide
     shared-slice-read-wide
     wide-requires
-    say-number-requires
+    say-field-requires
     add-i
     loop-less
     loop-again

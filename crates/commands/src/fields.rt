@@ -1,62 +1,10 @@
 // Words, numbers and escaped bytes of a command line.
-ghost use Prim.Native.Nat.{_<_};
-
-// The part of s from a place up to another one, or nothing where there is no such part.
-pub fn part(s: &[u8], from: usize, to: usize) -> &[u8] {
-    if to < from {
-        return &s[0..0];
-    }
-    if s.len() < to {
-        return &s[0..0];
-    }
-    &s[from..to]
-}
-
-// The first k bytes, or all if there are fewer.
-pub fn front(s: &[u8], k: usize) -> &[u8] {
-    if s.len() < k {
-        return s;
-    }
-    &s[0..k]
-}
-
-// The same of numbers.
-pub fn front_numbers(s: &[u32], k: usize) -> &[u32] {
-    if s.len() < k {
-        return s;
-    }
-    &s[0..k]
-}
-
-// How many bytes stand before the first one of this value; all of them if there is none.
-fn count_before(s: &[u8], byte: u8) -> usize {
-    let mut i = 0;
-    while i < s.len() {
-        if s[i] == byte {
-            return i;
-        }
-        i += 1;
-    }
-    i
-}
-
-// Those bytes, from a place on.
-pub fn until(s: &[u8], from: usize, byte: u8) -> &[u8] {
-    let left = part(s, from, s.len());
-    front(left, count_before(left, byte))
-}
-
-// The place after the first byte of this value from a place on; the length if there is none.
-pub fn after(s: &[u8], from: usize, byte: u8) -> usize
-    requires { do ⌜ from < (← ⟦s.len()⟧) ⌝ }
-    ensures { λ r. ⌜ from < r ⌝ }
-{
-    let count = count_before(part(s, from, s.len()), byte);
-    if s.len() - from <= count {
-        return s.len();
-    }
-    from + count + 1
-}
+use words::after;
+use words::is;
+use words::part;
+use words::put;
+use words::say;
+use words::until;
 
 // The first word of a line.
 pub fn field(line: &[u8]) -> &[u8] {
@@ -69,11 +17,6 @@ pub fn rest(line: &[u8]) -> &[u8] {
         return line;
     }
     part(line, after(line, 0, b' '), line.len())
-}
-
-// Whether a word is this one.
-pub fn is(word: &[u8], name: &[u8]) -> bool {
-    check::same(word, name)
 }
 
 // How many words of a list stand before this one; all of them if it is not among them.
@@ -146,11 +89,6 @@ pub fn entry(line: &[u8]) -> u32 {
     value as u32
 }
 
-// A number of 32 bits as one of 64.
-pub fn wide(x: u32) -> u64 {
-    x as u64
-}
-
 // How many more bytes than one write the byte that begins a line of escaped bytes: \xNN is the byte NN, \\ a backslash.
 fn escape(line: &[u8]) -> usize {
     if line.len() == 0 || line[0] != b'\\' {
@@ -192,15 +130,6 @@ pub fn unescape(line: &[u8], out: &mut [u8], from: usize) -> usize {
     end
 }
 
-// Writes a byte at a place, if there is room, and gives the next place.
-pub fn put(out: &mut [u8], at: usize, byte: u8) -> usize {
-    if at < out.len() {
-        out[at] = byte;
-        return at + 1;
-    }
-    at
-}
-
 // What `read_line` gives at the end of the input.
 pub const END: usize = 4294967295;
 
@@ -235,11 +164,8 @@ pub fn read_line(line: &mut [u8]) -> usize {
     size
 }
 
-pub fn say(text: &[u8]) {
-    io::write_all(libc::STDOUT_FILENO, text);
-}
-
-pub fn say_number(n: u64) {
-    io::write_all(libc::STDOUT_FILENO, b" ");
-    io::print_decimal(libc::STDOUT_FILENO, n);
+// Prints a space and a number.
+pub fn say_field(n: u64) {
+    say(b" ");
+    words::say_number(n);
 }

@@ -3,8 +3,8 @@ use crate::said::Tally;
 use crate::said::compare;
 use crate::said::held;
 use crate::said::say_answer;
-use crate::texts::part;
 use tables::Answer;
+use words::part;
 
 // Last codes, a table of the tree or work numbers for a text of at most 200 bytes.
 type Tree = [u32; 201];

@@ -241,7 +241,7 @@ fn main() {
     let mut prefixes = [0u32; 300];
     let mut area = [0u32; 16384];
     let size = texts::put_sample_e(&mut file);
-    let phrases = texts::front(&file, size);
+    let phrases = words::front(&file, size);
     dictionary::from_dictionary(
         phrases,
         1,

@@ -1,30 +1,24 @@
 // What is printed, and how many answers differ.
 use tables::Answer;
+use words::say;
+use words::wide;
 
 // How many answers were compared, and how many of them differed.
 pub type Tally = [u64; 2];
 
-// A number of 32 bits as one of 64.
-pub fn wide(x: u32) -> u64 {
-    x as u64
-}
-
-pub fn say(text: &[u8]) {
-    io::write_all(libc::STDOUT_FILENO, text);
-}
-
-pub fn say_number(n: u64) {
+// Prints a space and a number.
+pub fn say_field(n: u64) {
     say(b" ");
-    io::print_decimal(libc::STDOUT_FILENO, n);
+    words::say_number(n);
 }
 
 // The first four numbers.
 pub fn say_four(name: &[u8], counts: &[u32; 4096]) {
     say(name);
-    say_number(wide(counts[0]));
-    say_number(wide(counts[1]));
-    say_number(wide(counts[2]));
-    say_number(wide(counts[3]));
+    say_field(wide(counts[0]));
+    say_field(wide(counts[1]));
+    say_field(wide(counts[2]));
+    say_field(wide(counts[3]));
     say(b"\n");
 }
 
@@ -34,19 +28,19 @@ pub fn say_answer(name: &[u8], answer: Answer) {
     let refusal = answers::answer_number(answer);
     if refusal != 0 {
         say(b" refused");
-        say_number(wide(refusal));
+        say_field(wide(refusal));
         say(b", place");
     }
-    say_number(answers::answer_place(answer));
+    say_field(answers::answer_place(answer));
     say(b"\n");
 }
 
 pub fn say_tally(name: &[u8], tally: Tally) {
     say(name);
     say(b" compared");
-    say_number(tally[0]);
+    say_field(tally[0]);
     say(b", differing");
-    say_number(tally[1]);
+    say_field(tally[1]);
     say(b"\n");
 }
 

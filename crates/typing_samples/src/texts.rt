@@ -1,16 +1,8 @@
-// The phrase file E of document 01, the texts to type, and parts of texts.
+// The phrase file E of document 01, and the texts to type.
+use words::put;
 
 // A text, or its mirror: the same bytes from the end back.
 pub type Text = [u8; 4096];
-
-// Writes a byte at a place, if there is room, and gives the next place.
-fn put(file: &mut [u8], at: usize, byte: u8) -> usize {
-    if at < file.len() {
-        file[at] = byte;
-        return at + 1;
-    }
-    at
-}
 
 // A mark and a length byte.
 fn put_mark(file: &mut [u8], at: usize, size: u8) -> usize {
@@ -87,14 +79,6 @@ pub fn put_piece(text: &mut Text, mirror: &mut Text, at: usize, piece: &[u8]) {
     }
 }
 
-// The first k bytes, or all if there are fewer.
-pub fn front(s: &[u8], k: usize) -> &[u8] {
-    if s.len() < k {
-        return s;
-    }
-    &s[0..k]
-}
-
 // The last k bytes, or all if there are fewer.
 pub fn back(s: &[u8], k: usize) -> &[u8] {
     if s.len() < k {
@@ -102,23 +86,4 @@ pub fn back(s: &[u8], k: usize) -> &[u8] {
     }
     let from = s.len() - k;
     &s[from..]
-}
-
-// The same of numbers from the front.
-pub fn front_numbers(s: &[u32], k: usize) -> &[u32] {
-    if s.len() < k {
-        return s;
-    }
-    &s[0..k]
-}
-
-// The part of s from a place up to another one, or nothing where there is no such part.
-pub fn part(s: &[u8], from: usize, to: usize) -> &[u8] {
-    if to < from {
-        return &s[0..0];
-    }
-    if s.len() < to {
-        return &s[0..0];
-    }
-    &s[from..to]
 }

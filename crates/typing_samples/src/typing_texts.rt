@@ -2,15 +2,15 @@
 use crate::said::Tally;
 use crate::said::compare;
 use crate::said::held;
-use crate::said::wide;
 use crate::texts::Text;
 use crate::texts::back;
-use crate::texts::front;
-use crate::texts::front_numbers;
-use crate::texts::part;
 use crate::texts::put_piece;
 use tables::Answer;
 use typing_core::Side;
+use words::front;
+use words::front_numbers;
+use words::part;
+use words::wide;
 
 // Columns or work numbers.
 pub type Numbers = [u32; 4096];

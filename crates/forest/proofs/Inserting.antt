@@ -1,27 +1,28 @@
 -- Insertion keeps the half in order. Assumes nothing.
 use mathlib.Core.Path.{_≡_, refl, sym, ap, _∙_}
-use mathlib.Core.List.{List, _∷_}
+use mathlib.Core.List.{List}
 use mathlib.Core.Logic.{_⊎_, inl, inr, ⊎-elim}
 use mathlib.Core.Bool.{Bool, true, false}
 use Prim.Native.Nat.{ℕ, zero, suc, _+_, _%_, _≤_, _<_}
-use native.Mathlib.Decide.{decLt}
+use native.Mathlib.Decide.{ℕ-discrete, decLt}
 use native.Mathlib.Omega.{arith}
 use lib.ListN.{length, getD}
 use lib.Dec.{eqb}
-use borrow.Author.Tests.{eq-eqb, ne-eqb, eqb-true, eqb-false}
+use borrow.Author.Tests.{eq-eqb, ne-eqb}
 use Rattle.placed_rows.specs.Rows.{none}
 use Rattle.placed_rows.specs.Texts.{Begins}
 use Rattle.placed_rows.proofs.Beginning.{true-false, begins-length, same-length}
 use Rattle.placed_rows.specs.Longest.{Known, Longest, Prefix}
 use Rattle.forest.specs.Words.{Forest, word, row-of, bucketOf, walk, Mem, In, count, byteOf, home, wordOf, Entry, Indexed, childKey, marksFrom}
 use Rattle.forest.specs.Lookups.{Descent}
-use Rattle.forest.specs.Growth.{pushed, with-row, Fresh, Inserted}
+use Rattle.forest.specs.Growth.{placeOf, pushed, with-row, Fresh, Inserted}
 use Rattle.marks.specs.Marks.{marked, Marks}
 use Rattle.forest.proofs.Packing.{word-row, bucket-small, key-small}
 use Rattle.forest.proofs.Marking.{length-marked, marked-indexed}
-use Rattle.forest.proofs.Walking.{walk-in, walk-more, count-le}
+use Rattle.forest.proofs.Walking.{walk-zero, walk-more, met, meet-first, meet-next, count-le}
 use Rattle.forest.proofs.Joining.{with-in, with-old, with-new, count-more}
-use Rattle.forest.proofs.Pushing.{length-pushed, head-new, head-old, link-new, walk-keep, marks-keep}
+use Rattle.forest.proofs.Pushing.{Place, place-in, place-out, length-put, put-at, put-other, marks-keep}
+use Rattle.forest.proofs.Passing.{still-met, no-more, from-w}
 
 -- prefixes, with that of c
 abbrev par-with : (ℕ → ℕ) → ℕ → ℕ → ℕ → ℕ
@@ -32,13 +33,6 @@ par-new par c p = rw (eq-eqb c c refl, par-with)
 
 par-old : (par : ℕ → ℕ) (c p d : ℕ) → (d ≡ c → ⊥) → par-with par c p d ≡ par d
 par-old par c p d h = rw (ne-eqb d c h, par-with)
-
-same-or-not : (x y : ℕ) → (x ≡ y) ⊎ (x ≡ y → ⊥)
-same-or-not x y = go (eqb x y) refl
-  where
-    go : (r : Bool) → eqb x y ≡ r → (x ≡ y) ⊎ (x ≡ y → ⊥)
-    go true e = inl (eqb-true x y e)
-    go false e = inr (eqb-false x y e)
 
 module _ (R : ℕ → List ℕ) (n : ℕ) (half : List ℕ) (S : ℕ → Bool) (I : Indexed R n half S) (c p : ℕ) (A : 7680 ≤ length half)
     (F : Fresh R n S c) (L : Longest R (In S) (R c) p) where
@@ -112,15 +106,22 @@ module _ (R : ℕ → List ℕ) (n : ℕ) (half : List ℕ) (S : ℕ → Bool) (
   abbrev parents : ℕ → ℕ
   parents = par-with (I .par) c p
 
-  -- the bucket, the word and the half with it
+  -- the bucket and the word
   abbrev B : ℕ
   B = bucketOf p (getD (R c) (length (R p)) 0)
 
   abbrev W : ℕ
   W = word c p (length (R c))
 
+  -- the place in the bucket, the word that stands first, and the half with one word more
+  abbrev at : ℕ
+  at = placeOf half n B
+
+  abbrev first : ℕ
+  first = getD half B 0
+
   abbrev half' : List ℕ
-  half' = pushed half B c W
+  half' = pushed half n B c W
 
   C : c < 4096
   C = let z = F .below in let f = I .few in omega arith
@@ -131,40 +132,82 @@ module _ (R : ℕ → List ℕ) (n : ℕ) (half : List ℕ) (S : ℕ → Bool) (
   W-row : W % 8192 ≡ c
   W-row = let z = C in word-row c p (length (R c)) (omega arith)
 
-  unmet : (g k : ℕ) → g < 2560 → k ≤ n → (v : ℕ) → Mem v (walk n half k (getD half g 0)) → v % 8192 ≡ c → ⊥
-  unmet g k l h v m e =
-      let E = I .only g v l (walk-more n half k n (getD half g 0) v h m) in
+  -- what a bucket has: words of rows of S, of which c is none
+  abbrev Old : ℕ → ℕ → Type 0
+  Old g v = Entry R (I .par) S g v
+
+  old : (g k v : ℕ) → g < 2560 → k ≤ n → Mem v (walk n half k (getD half g 0)) → Old g v
+  old g k v l h m = I .only g v l (walk-more n half k n (getD half g 0) v h m)
+
+  old-row : (g v : ℕ) (E : Old g v) → v % 8192 ≡ E .row
+  old-row g v E =
       let b = I .below (E .row) (E .in-S) in
       let f = I .few in
-      let r : v % 8192 ≡ E .row = ap (λ (z : ℕ). row-of z) (E .is) ∙ word-row (E .row) (I .par (E .row)) (length (R (E .row))) (omega arith) in
-      not-old R n half S I c p A F L (E .row) (E .in-S) (sym r ∙ e)
+      ap (λ (z : ℕ). row-of z) (E .is) ∙ word-row (E .row) (I .par (E .row)) (length (R (E .row))) (omega arith)
 
-  keep : (g k : ℕ) → g < 2560 → k ≤ n → walk n half' k (getD half g 0) ≡ walk n half k (getD half g 0)
-  keep g k l h = walk-keep half B c W H C A n k (getD half g 0) (unmet g k l h)
+  not-c : (g v : ℕ) → Old g v → v % 8192 ≡ c → ⊥
+  not-c g v E e = not-old R n half S I c p A F L (E .row) (E .in-S) (sym (old-row g v E) ∙ e)
 
-  front : (k : ℕ) → k ≤ n → walk n half' (suc k) W ≡ W ∷ walk n half k (getD half B 0)
-  front k l =
-      walk-in n half' k W (let z = F .below in let r = W-row in omega arith)
-      ∙ ap {B = List ℕ} (λ t. W ∷ t) (ap (λ (i : ℕ). walk n half' k (getD half' (3584 + i) 0)) W-row
-      ∙ ap (walk n half' k) (link-new half B c W H C A) ∙ keep B k H l)
+  one-bucket : (g h u v : ℕ) → Old g u → Old h v → u % 8192 ≡ v % 8192 → g ≡ h
+  one-bucket g h u v D E e = sym (D .home) ∙ ap (home R (I .par)) (sym (old-row g u D) ∙ e ∙ old-row h v E) ∙ E .home
+
+  old-first : first % 8192 < n → Old B first
+  old-first l = old B 1 first H (let z = F .below in omega arith) (meet-first n half 0 first l)
+
+  place : Place half at c
+  place = go (decLt (first % 8192) n)
+    where
+      go : Dec (first % 8192 < n) → Place half at c
+      go (yes l) =
+          let e = place-in half n B l in
+          let f = I .few in
+          record { below = omega arith; no-mark = λ z. omega arith; apart = λ z. not-c B first (old-first l) (omega arith); row = C; room = A }
+      go (no l) =
+          let e = place-out half n B (omega arith) in
+          let b = H in
+          record { below = omega arith; no-mark = λ z. omega arith; apart = λ z. omega arith; row = C; room = A }
+
+  -- heads and links of the half with one word more
+  head-other : (g : ℕ) → g < 2560 → (g ≡ at → ⊥) → getD half' g 0 ≡ getD half g 0
+  head-other g l e = put-other half at c W place g e (λ z. omega arith)
+
+  head-in : first % 8192 < n → getD half' B 0 ≡ first
+  head-in l = head-other B H (λ z. omega (arith, H, place-in half n B l))
+
+  link-in : first % 8192 < n → getD half' (3584 + first % 8192) 0 ≡ W
+  link-in l = ap (λ (i : ℕ). getD half' i 0) (sym (place-in half n B l)) ∙ put-at half at c W place
+
+  head-out : n ≤ first % 8192 → getD half' B 0 ≡ W
+  head-out l = ap (λ (i : ℕ). getD half' i 0) (sym (place-out half n B l)) ∙ put-at half at c W place
 
   room : count S n < n
   room = let z = count-more S c n (F .below) (F .new) in let w = count-le (with-row S c) n in omega arith
 
   listed-at : (v g : ℕ) → g < 2560 → Mem v (walk n half (count S n) (getD half g 0)) → Mem v (walk n half' (suc (count S n)) (getD half' g 0))
-  listed-at v g l m = go (same-or-not g B)
+  listed-at v g l m =
+      still-met n half at c W place (F .below) W-row (count S n) g v (λ z. omega arith)
+      (λ u p. not-c g u (old g (count S n) u l (let r = room in omega arith) p)) m
+
+  some : (d : ℕ) → In S d → 0 < count S n
+  some d s = go (decLt 0 (count S n))
     where
-      go : (g ≡ B) ⊎ (g ≡ B → ⊥) → Mem v (walk n half' (suc (count S n)) (getD half' g 0))
-      go (inl e) =
-          let r = room in
-          rw (e, head-new half B c W H C A, front (count S n) (omega arith)) (inr (rw e at m))
-      go (inr e) =
-          let r = room in
-          rw (head-old half B c W H C A g l e, keep g (suc (count S n)) l (omega arith))
-          (walk-more n half (count S n) (suc (count S n)) (getD half g 0) v (omega arith) m)
+      go : Dec (0 < count S n) → 0 < count S n
+      go (yes l) = l
+      go (no l) = absurd (rw (walk-zero n half (count S n) (getD half (home R (I .par) d) 0) (omega arith)) at (I .listed d s))
 
   listed-new : Mem W (walk n half' (suc (count S n)) (getD half' B 0))
-  listed-new = let r = room in rw (head-new half B c W H C A, front (count S n) (omega arith)) (inl refl)
+  listed-new = go (decLt (first % 8192) n)
+    where
+      in-n : W % 8192 < n
+      in-n = let z = F .below in let r = W-row in omega arith
+
+      go : Dec (first % 8192 < n) → Mem W (walk n half' (suc (count S n)) (getD half' B 0))
+      go (yes l) =
+          let s = some (old-first l .row) (old-first l .in-S) in
+          rw (head-in l)
+          (meet-next n half' (count S n) first W l
+          (rw (link-in l) (walk-more n half' 1 (count S n) W W (omega arith) (meet-first n half' 0 W in-n))))
+      go (no l) = rw (head-out (omega arith)) (meet-first n half' (count S n) W in-n)
 
   kept : (d : ℕ) → In S d → parents d ≡ I .par d
   kept = kept-par R n half S I c p A F L
@@ -185,23 +228,43 @@ module _ (R : ℕ → List ℕ) (n : ℕ) (half : List ℕ) (S : ℕ → Bool) (
     home = rw (par-new (I .par) c p) (sym e);
   }
 
-  only-at : (g v k : ℕ) → g < 2560 → k ≤ n → Mem v (walk n half' k (getD half' g 0)) → Entry R parents (with-row S c) g v
-  unfolding walk
-  only-at g v zero l h m = absurd m
-  only-at g v (suc k) l h m = go (same-or-not g B)
+  -- another bucket has what it had
+  only-other : (g v : ℕ) → g < 2560 → (g ≡ B → ⊥) → Mem v (walk n half' n (getD half' g 0)) → Old g v
+  only-other g v l e m = go (decLt (first % 8192) n)
     where
-      go : (g ≡ B) ⊎ (g ≡ B → ⊥) → Entry R parents (with-row S c) g v
-      go (inl e) =
-          let m1 : Mem v (walk n half' (suc k) W) = rw (e, head-new half B c W H C A) at m in
-          let m2 : Mem v (W ∷ walk n half k (getD half B 0)) = rw (front k (omega arith)) at m1 in
+      had : (u : ℕ) → Mem u (walk n half n (getD half g 0)) → Old g u
+      had u q = old g n u l (omega arith) q
+
+      kept-walk : (g ≡ at → ⊥) → ((u : ℕ) → Mem u (walk n half n (getD half g 0)) → 3584 + u % 8192 ≡ at → ⊥) → Old g v
+      kept-walk f h = had v (no-more n half at c W place (F .below) W-row n (getD half g 0) v (λ u q. not-c g u (had u q)) h (rw (head-other g l f) at m))
+
+      go : Dec (first % 8192 < n) → Old g v
+      go (yes i) = let z = place-in half n B i in kept-walk (λ q. omega arith) (λ u q r. e (one-bucket g B u first (had u q) (old-first i) (omega arith)))
+      go (no i) = let z = place-out half n B (omega arith) in let b = H in kept-walk (λ q. e (omega arith)) (λ u q r. omega arith)
+
+  -- the bucket has what it had, and W
+  only-own : (k v : ℕ) → k ≤ n → Mem v (walk n half' k (getD half' B 0)) → (v ≡ W) ⊎ Old B v
+  unfolding walk
+  only-own zero v h m = absurd m
+  only-own (suc k) v h m = go (decLt (first % 8192) n)
+    where
+      behind-W : (j : ℕ) → ((u : ℕ) → Mem u (walk n half j (getD half at 0)) → Old B u) → Mem v (walk n half' j W) → (v ≡ W) ⊎ Old B v
+      behind-W j = from-w n half at c W place (F .below) W-row (Old B) (not-c B) j v
+
+      go : Dec (first % 8192 < n) → (v ≡ W) ⊎ Old B v
+      go (yes l) =
           ⊎-elim
-          (λ f. entry-new g v e f)
-          (λ f. entry-old g v (rw e (I .only B v H (walk-more n half k n (getD half B 0) v (omega arith) f))))
-          m2
-      go (inr e) =
-          let m1 : Mem v (walk n half' (suc k) (getD half g 0)) = rw (head-old half B c W H C A g l e) at m in
-          let m2 : Mem v (walk n half (suc k) (getD half g 0)) = rw (keep g (suc k) l h) at m1 in
-          entry-old g v (I .only g v l (walk-more n half (suc k) n (getD half g 0) v h m2))
+          (λ e. inr (rw e (old-first l)))
+          (λ q. behind-W k (λ u r. old B (suc k) u H h (meet-next n half k first u l (rw (place-in half n B l) at r))) (rw (link-in l) at q))
+          (met n half' k first v (rw (head-in l) at m) .1)
+      go (no l) = behind-W (suc k) (λ u r. old B (suc k) u H h (rw (place-out half n B (omega arith)) at r)) (rw (head-out (omega arith)) at m)
+
+  only-at : (g v : ℕ) → g < 2560 → Mem v (walk n half' n (getD half' g 0)) → Entry R parents (with-row S c) g v
+  only-at g v l m = go (ℕ-discrete g B)
+    where
+      go : Dec (g ≡ B) → Entry R parents (with-row S c) g v
+      go (yes e) = ⊎-elim (λ f. entry-new g v e f) (λ E. entry-old g v (rw e E)) (only-own n v (omega arith) (rw e at m))
+      go (no e) = entry-old g v (only-other g v l e m)
 
   inserted : Indexed R n half' (with-row S c)
   inserted = record {
@@ -210,9 +273,9 @@ module _ (R : ℕ → List ℕ) (n : ℕ) (half : List ℕ) (S : ℕ → Bool) (
     few = I .few;
     below = λ d s. ⊎-elim (λ e. let z = F .below in omega arith) (λ t. I .below d t) (with-in S c d s);
     bytes = λ d s. ⊎-elim (small d) (λ t. rw (kept d t) (I .bytes d t)) (with-in S c d s);
-    listed = λ d s. rw (count-more S c n (F .below) (F .new)) (⊎-elim (new d) (old d) (with-in S c d s));
-    marks = λ d s. marks-keep half B c W H C A (childKey (parents d) (byteOf R parents d)) (key-small (parents d) (byteOf R parents d)) ∙ ⊎-elim (key d) (λ t. rw (kept d t) (I .marks d t)) (with-in S c d s);
-    only = λ g v l m. only-at g v n l (omega arith) m;
+    listed = λ d s. rw (count-more S c n (F .below) (F .new)) (⊎-elim (new d) (still d) (with-in S c d s));
+    marks = λ d s. marks-keep half at c W place (childKey (parents d) (byteOf R parents d)) (key-small (parents d) (byteOf R parents d)) ∙ ⊎-elim (key d) (λ t. rw (kept d t) (I .marks d t)) (with-in S c d s);
+    only = only-at;
   }
     where
       small : (d : ℕ) → d ≡ c → byteOf R parents d < 256
@@ -224,8 +287,8 @@ module _ (R : ℕ → List ℕ) (n : ℕ) (half : List ℕ) (S : ℕ → Bool) (
       new : (d : ℕ) → d ≡ c → Mem (wordOf R parents d) (walk n half' (suc (count S n)) (getD half' (home R parents d) 0))
       new d e = rw (e, par-new (I .par) c p) listed-new
 
-      old : (d : ℕ) → In S d → Mem (wordOf R parents d) (walk n half' (suc (count S n)) (getD half' (home R parents d) 0))
-      old d s = rw (kept d s) (listed-at (wordOf R (I .par) d) (home R (I .par) d) (bucket-small (I .par d) (byteOf R (I .par) d) (I .bytes d s)) (I .listed d s))
+      still : (d : ℕ) → In S d → Mem (wordOf R parents d) (walk n half' (suc (count S n)) (getD half' (home R parents d) 0))
+      still d s = rw (kept d s) (listed-at (wordOf R (I .par) d) (home R (I .par) d) (bucket-small (I .par d) (byteOf R (I .par) d) (I .bytes d s)) (I .listed d s))
 
 -- the descent from the root along t, the bytes of row c
 module _ (R : ℕ → List ℕ) (n : ℕ) (half : List ℕ) (c : ℕ) (t : List ℕ) (p k : ℕ) (A : 7680 ≤ length half) (e : t ≡ R c) (D : Descent R n half none 0 t p k) where
@@ -243,9 +306,9 @@ module _ (R : ℕ → List ℕ) (n : ℕ) (half : List ℕ) (c : ℕ) (t : List 
 
   -- the stores that the code makes, with what it has at hand
   pub insert-done : (half₁ : List ℕ) (key b h w l : ℕ) → Marks half marksFrom key half₁ → key ≡ childKey p b → b ≡ getD t k 0 → b < 256 → h ≡ bucketOf p b → w ≡ word c p l → l ≡ length t
-      → Inserted R n half c (pushed half₁ h c w)
+      → Inserted R n half c (pushed half₁ n h c w)
   insert-done half₁ key b h w l m ki bi bs hi wi li = record {
-    kept = length-pushed half₁ h c w ∙ length-marked half key half₁ m;
+    kept = length-put half₁ (placeOf half₁ n h) c w ∙ length-marked half key half₁ m;
     index = λ S I F.
         let q = from-root S I in
         let y : b ≡ getD (R c) (length (R p)) 0 = bi ∙ (λ i. getD (e i) (q .1 i) 0) in

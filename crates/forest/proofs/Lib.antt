@@ -6,6 +6,7 @@ pub mod Searching
 pub mod Descending
 pub mod Joining
 pub mod Pushing
+pub mod Passing
 pub mod Marking
 pub mod Inserting
 pub mod Emptying

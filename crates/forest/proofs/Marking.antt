@@ -13,12 +13,12 @@ use Rattle.forest.proofs.Packing.{bucket-small}
 
 module _ (half : List ℕ) (k : ℕ) (half' : List ℕ) (m : Marks half marksFrom k half') where
   pub length-marked : length half' ≡ length half
-  length-marked = ap length (m .is) ∙ length-set half (marksFrom + k / 32) (m .number)
+  length-marked = ap length (m .is) ∙ length-set half (marksFrom + k / 1024) (m .number)
 
-module _ (half : List ℕ) (k : ℕ) (half' : List ℕ) (K : k < 32768) (m : Marks half marksFrom k half') where
+module _ (half : List ℕ) (k : ℕ) (half' : List ℕ) (K : k < 1048576) (m : Marks half marksFrom k half') where
   -- a number outside the marks stays
-  same : (i : ℕ) → (i ≡ marksFrom + k / 32 → ⊥) → getD half' i 0 ≡ getD half i 0
-  same i e = ap (λ (t : List ℕ). getD t i 0) (m .is) ∙ getD-set-other half (marksFrom + k / 32) i (m .number) 0 e
+  same : (i : ℕ) → (i ≡ marksFrom + k / 1024 → ⊥) → getD half' i 0 ≡ getD half i 0
+  same i e = ap (λ (t : List ℕ). getD t i 0) (m .is) ∙ getD-set-other half (marksFrom + k / 1024) i (m .number) 0 e
 
   same-head : (h : ℕ) → h < 2560 → getD half' h 0 ≡ getD half h 0
   same-head h l = same h (λ e. omega arith)
@@ -35,7 +35,7 @@ module _ (half : List ℕ) (k : ℕ) (half' : List ℕ) (K : k < 32768) (m : Mar
   same-bucket : (n j h : ℕ) → h < 2560 → walk n half' j (getD half' h 0) ≡ walk n half j (getD half h 0)
   same-bucket n j h l = ap (walk n half' j) (same-head h l) ∙ same-walk n j (getD half h 0)
 
-module _ (R : ℕ → List ℕ) (n : ℕ) (half : List ℕ) (S : ℕ → Bool) (k : ℕ) (half' : List ℕ) (K : k < 32768) (m : Marks half marksFrom k half') (I : Indexed R n half S) where
+module _ (R : ℕ → List ℕ) (n : ℕ) (half : List ℕ) (S : ℕ → Bool) (k : ℕ) (half' : List ℕ) (K : k < 1048576) (m : Marks half marksFrom k half') (I : Indexed R n half S) where
   pub marked-indexed : Indexed R n half' S
   marked-indexed = record {
     par = I .par;

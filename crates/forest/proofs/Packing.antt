@@ -45,8 +45,8 @@ pub bucket-row : (q b : ℕ) → (q ≡ none → ⊥) → bucketOf q b ≡ 256 +
 unfolding bucketOf
 bucket-row q b e = rw (ne-eqb q none e, bucketOf)
 
--- a key is one of 32,768, in 1,024 numbers
-pub key-small : (q b : ℕ) → childKey q b < 32768
+-- a key is one of 1,048,576, in 1,024 numbers
+pub key-small : (q b : ℕ) → childKey q b < 1048576
 unfolding childKey
 key-small q b = omega arith
 

@@ -13,7 +13,7 @@ use Rattle.marks.specs.Marks.{marked}
 use Rattle.placed_rows.proofs.Beginning.{true-false, begins-split, begins-append, begins-length, beyond, cancel}
 use Rattle.placed_rows.specs.Longest.{Known}
 use Rattle.forest.specs.Words.{row-of, code, len-of, bucketOf, childKey, marksFrom, walk, Mem, In, count, byteOf, home, wordOf, Indexed}
-use Rattle.forest.specs.Lookups.{WordOf, Fits, Child, At, ChildIs}
+use Rattle.forest.specs.Lookups.{OneLonger, WordOf, Fits, Child, At, ChildIs}
 use Rattle.forest.proofs.NoChild.{filled}
 use Rattle.forest.proofs.Fitting.{fits-one}
 use Rattle.forest.proofs.Packing.{word-row, word-len, bucket-small, bucket-byte, code-same}
@@ -167,13 +167,12 @@ module _ (R : ℕ → List ℕ) (n : ℕ) (half : List ℕ) (p len : ℕ) (rest 
           let ld : l ≡ length (R d) = lx ∙ ap (λ (v : ℕ). len-of v) (m .is) ∙ word-len d (I .par d) (length (R d)) (omega arith) (W .filled) in
           rw rd (is-child R n half S I p rest d (m .in-S) (same-prefix R n half S I p rest (a .known) d (m .in-S) (y .under)) (rw (a .size) at (y .on)), ld)
 
-  -- a word of the root's bucket that has the root as its prefix and one byte
-  pub search-one : (x h : ℕ) → p ≡ none → len ≡ 0 → h ≡ bucketOf p (getD rest 0 0) → x ≡ getD half h 0 → row-of x < n → n ≤ 4096 → getD rest 0 0 < 256 → 0 < length rest
-      → x / 8192 ≡ 8191 → ChildIs R n half p len rest (row-of x) 1
-  search-one x h pn ln hi xi b N byte room one =
-      let c : code p ≡ 8191 = rw pn in
-      let z : len-of x ≡ 1 = omega arith in
-      search-hit x (row-of x) n 1 refl (omega arith) b N (sym z) (omega arith) byte (fits-one R n p len rest x N (omega arith) (omega arith) room) (rw (sym xi) at (search-start h hi))
+  -- the first word of the bucket, where its row is one byte longer
+  pub search-one : (x h l : ℕ) → h ≡ bucketOf p (getD rest 0 0) → x ≡ getD half h 0 → OneLonger n x p len → n ≤ 4096 → getD rest 0 0 < 256 → 0 < length rest → l ≡ len-of x → l < 65
+      → ChildIs R n half p len rest (row-of x) l
+  search-one x h l hi xi o N byte room lx l65 =
+      let b = o .below in
+      search-hit x (row-of x) n l refl (omega arith) b N lx l65 byte (fits-one R n p len rest x N (o .under) (o .one) room) (rw (sym xi) at (search-start h hi))
 
   nothing : (l : ℕ) → ((S : ℕ → Bool) (a : At R n half S p len) (d : ℕ) → Child R (a .index .par) (In S) p rest d → ⊥) → ChildIs R n half p len rest none l
   nothing l h = record { bound = inl refl; sound = λ z. absurd (z refl); complete = λ _. h }

@@ -4,6 +4,7 @@ use mathlib.Core.List.{List, [], _∷_}
 use mathlib.Core.Logic.{_⊎_, inl, inr, ⊎-elim}
 use mathlib.Core.Bool.{Bool, true, false}
 use Prim.Native.Nat.{ℕ, zero, suc, _+_, _-_, _%_, _≤_, _<_}
+use native.Mathlib.Decide.{decLt}
 use native.Mathlib.Omega.{arith}
 use lib.ListN.{getD}
 use lib.Dec.{ltb}
@@ -44,6 +45,20 @@ module _ (n : ℕ) (half : List ℕ) where
           let z : Mem w (x ∷ next k x) = rw (e, walk) at y in
           rw (e, walk) (⊎-elim (λ p. inl p) (λ p. inr (ih p)) z)
       go false e ih = absurd (let z : Mem w [] = rw (e, walk) at y in z)
+
+  -- a walk meets its first word, and what the walk from the next one meets
+  pub met : (k x v : ℕ) → Mem v (walk n half (suc k) x) → (x % 8192 < n) × ((v ≡ x) ⊎ Mem v (next k x))
+  met k x v m = go (decLt (x % 8192) n)
+    where
+      go : Dec (x % 8192 < n) → (x % 8192 < n) × ((v ≡ x) ⊎ Mem v (next k x))
+      go (yes l) = (l, rw (walk-in k x l) at m)
+      go (no l) = absurd (let z : Mem v [] = rw (walk-out (suc k) x (omega arith)) at m in z)
+
+  pub meet-first : (k x : ℕ) → x % 8192 < n → Mem x (walk n half (suc k) x)
+  meet-first k x l = rw (walk-in k x l) (inl refl)
+
+  pub meet-next : (k x v : ℕ) → x % 8192 < n → Mem v (next k x) → Mem v (walk n half (suc k) x)
+  meet-next k x v l m = rw (walk-in k x l) (inr m)
 
 pub count-le : (S : ℕ → Bool) (n : ℕ) → count S n ≤ n
 count-le S zero = omega arith

@@ -1,20 +1,28 @@
 -- How a half is filled: it is cleared, and then rows are inserted by rising length. Assumes nothing.
 use mathlib.Core.Path.{_≡_}
 use mathlib.Core.List.{List, _++_}
-use mathlib.Core.Bool.{Bool, false, _||_}
+use mathlib.Core.Bool.{Bool, true, false, _||_}
 use Prim.Native.Nat.{ℕ, _+_, _≤_, _<_}
 use lib.ListN.{length, getD, set, drop, replicate}
-use lib.Dec.{eqb}
+use lib.Dec.{eqb, ltb}
 use Rattle.placed_rows.specs.Rows.{none}
-use Rattle.forest.specs.Words.{In, Indexed}
+use Rattle.forest.specs.Words.{row-of, In, Indexed}
 
 -- the half with empty buckets
 unfoldable pub cleared : List ℕ → List ℕ
 cleared half = replicate 3584 none ++ drop 3584 half
 
--- the half after the word w of row c was put at the front of bucket h
-unfoldable pub pushed : List ℕ → ℕ → ℕ → ℕ → List ℕ
-pushed half h c w = set (set half (3584 + c) (getD half h 0)) h w
+-- where a word comes into bucket h: at its head where the bucket is empty, else at the link of its first word
+unfoldable pub placeOf : List ℕ → ℕ → ℕ → ℕ
+placeOf half n h = elim (ltb (row-of (getD half h 0)) n) [ true ↦ 3584 + row-of (getD half h 0) | false ↦ h ]
+
+-- the half after the word w of row c was put at place a, before the word that stood there
+unfoldable pub put : List ℕ → ℕ → ℕ → ℕ → List ℕ
+put half a c w = set (set half (3584 + c) (getD half a 0)) a w
+
+-- the half after the word w of row c went into bucket h
+abbrev pub pushed : List ℕ → ℕ → ℕ → ℕ → ℕ → List ℕ
+pushed half n h c w = put half (placeOf half n h) c w
 
 -- the rows of S, and row c
 abbrev pub with-row : (ℕ → Bool) → ℕ → ℕ → Bool

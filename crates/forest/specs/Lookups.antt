@@ -8,7 +8,7 @@ use lib.ListN.{length, getD, drop}
 use Rattle.placed_rows.specs.Rows.{none}
 use Rattle.placed_rows.specs.Texts.{Begins, begins}
 use Rattle.placed_rows.specs.Longest.{Known, Longest}
-use Rattle.forest.specs.Words.{word, code, len-of, In, Indexed}
+use Rattle.forest.specs.Words.{word, row-of, code, code-of, len-of, In, Indexed}
 
 -- w is the word of row d, whose prefix is q; where that is p, the bucket has told the byte beyond p
 pub record WordOf (R : ℕ → List ℕ) (n p len : ℕ) (rest : List ℕ) (w d q : ℕ) : Type 0 where
@@ -54,6 +54,12 @@ pub record ChildIs (R : ℕ → List ℕ) (n : ℕ) (half : List ℕ) (p len : �
   pub bound : (r ≡ none) ⊎ Step n len (length rest) r l
   pub sound : (r ≡ none → ⊥) → (S : ℕ → Bool) (a : At R n half S p len) → Child R (a .index .par) (In S) p rest r × (l ≡ length (R r))
   pub complete : r ≡ none → (S : ℕ → Bool) (a : At R n half S p len) (d : ℕ) → Child R (a .index .par) (In S) p rest d → ⊥
+
+-- w is the word of a row whose prefix has the code of p, and that has one byte more than len
+pub record OneLonger (n w p len : ℕ) : Type 0 where
+  pub below : row-of w < n
+  pub under : code-of w ≡ code p
+  pub one : len-of w ≡ len + 1
 
 -- r is none, or the root's child that goes on as text does, and l its length
 abbrev pub OneByte : (ℕ → List ℕ) → ℕ → List ℕ → List ℕ → ℕ → ℕ → Type 0

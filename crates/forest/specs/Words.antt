@@ -41,7 +41,7 @@ bucketOf q b = elim (eqb q none) [ true ↦ b | false ↦ 256 + q % 8192 * 26544
 
 -- the key under which they are marked, and where the marks begin
 unfoldable pub childKey : ℕ → ℕ → ℕ
-childKey q b = (q % 8192 * 256 + b) * 2654435769 % 4294967296 / 131072
+childKey q b = (q % 8192 * 256 + b) * 2654435769 % 4294967296 / 4096
 
 abbrev pub marksFrom : ℕ
 marksFrom = 2560

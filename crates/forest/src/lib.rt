@@ -8,8 +8,8 @@ ghost use Rattle.placed_rows.specs.Rows.{none, row, Placed};
 ghost use Rattle.placed_rows.specs.Texts.{facing, rowFacing, Small};
 ghost use Rattle.marks.specs.Marks.{marked};
 ghost use Rattle.forest.specs.Words.{word, row-of, len-of, bucketOf, childKey, marksFrom};
-ghost use Rattle.forest.specs.Lookups.{Fits, OneByte, ChildIs, Descent};
-ghost use Rattle.forest.specs.Growth.{cleared, pushed, Inserted};
+ghost use Rattle.forest.specs.Lookups.{Fits, OneByte, OneLonger, ChildIs, Descent};
+ghost use Rattle.forest.specs.Growth.{cleared, placeOf, pushed, Inserted};
 use placed_rows::Match;
 use placed_rows::NONE;
 
@@ -56,9 +56,9 @@ fn bucket(p: u32, b: u8) -> usize
 
 // The key under which the prefix p and the next byte b are marked.
 fn child_key(p: u32, b: u8) -> usize
-    ensures { λ r. ⌜ Small (childKey p b) 32768 r ⌝ }
+    ensures { λ r. ⌜ Small (childKey p b) 1048576 r ⌝ }
 {
-    ((p as usize % 8192) * 256 + b as usize) * 2654435769 % 4294967296 / 131072
+    ((p as usize % 8192) * 256 + b as usize) * 2654435769 % 4294967296 / 4096
 }
 
 // Whether the marks say that no row has the prefix p and the next byte b. Each byte has a row, so the root is not asked about.
@@ -104,7 +104,20 @@ fn fits(
     placed_rows::begins_facing(placed_rows::beyond(bytes, len, back), rest, back)
 }
 
-// The child of p, of len bytes, that goes on as rest does, or NONE.
+// Is w the word of a row whose prefix is p, and that is one byte longer than p, of len bytes?
+fn is_one_longer(n: usize, w: u32, p: u32, len: usize) -> bool
+    ensures { λ r. ⌜ (r ≡ true → OneLonger n w p len) ⌝ }
+{
+    if n <= row_of(w) {
+        return false;
+    }
+    if w / 8192 % 8192 != p % 8192 {
+        return false;
+    }
+    len_of(w) - 1 == len
+}
+
+// The child of p, of len bytes, that goes on as rest does, or NONE. A row that is one byte longer, and first in its bucket, is found by one load.
 pub fn child(
     file: &[u8],
     places: &[u32],
@@ -123,10 +136,16 @@ pub fn child(
         return no_match();
     }
     let next = placed_rows::first(rest, back);
+    let mut w = half[bucket(p, next)];
+    if is_one_longer(n, w, p, len) {
+        return Match {
+            row: w % 8192,
+            len: len_of(w),
+        };
+    }
     if has_no_child(half, p, next) {
         return no_match();
     }
-    let mut w = half[bucket(p, next)];
     let mut left = n;
     while left > 0 {
         let i = row_of(w);
@@ -190,17 +209,13 @@ fn one_byte_row(half: &[u32], n: usize, text: &[u8], back: bool) -> Match
         return no_match();
     }
     let w = half[bucket(NONE, placed_rows::first(text, back))];
-    if n <= row_of(w) {
-        return no_match();
+    if is_one_longer(n, w, NONE, 0) {
+        return Match {
+            row: w % 8192,
+            len: 1,
+        };
     }
-    // The root is its prefix, and it has one byte.
-    if w / 8192 != 8191 {
-        return no_match();
-    }
-    Match {
-        row: w % 8192,
-        len: 1,
-    }
+    no_match()
 }
 
 // The root's child that begins text, or NONE.
@@ -246,13 +261,26 @@ pub fn longest(
     descend(file, places, n, half, r, size, rest, back)
 }
 
-// The word w of row c goes to the front of bucket h.
-fn push(half: &mut [u32], h: usize, c: usize, w: u32)
-    requires { ⌜ (c < 4096) × ((h < 2560) × (7680 ≤ length (now half))) ⌝ }
-    ensures { λ r. ⌜ now (half .exit) ≡ pushed (now (half .entry)) h c w ⌝ }
+// Where a word comes into bucket h: at its head where the bucket is empty, else at the link of its first word.
+fn place(half: &[u32], n: usize, h: usize) -> usize
+    requires { ⌜ (n ≤ 4096) × ((h < 2560) × (7680 ≤ length (now half))) ⌝ }
+    ensures { λ r. ⌜ Small (placeOf (now (half .entry)) n h) 7680 r ⌝ }
 {
-    half[3584 + c] = half[h];
-    half[h] = w;
+    let first = row_of(half[h]);
+    if n <= first {
+        return h;
+    }
+    3584 + first
+}
+
+// The word w of row c goes into bucket h: to its front where the bucket is empty, else behind its first word.
+fn push(half: &mut [u32], n: usize, h: usize, c: usize, w: u32)
+    requires { ⌜ (n ≤ 4096) × ((c < 4096) × ((h < 2560) × (7680 ≤ length (now half)))) ⌝ }
+    ensures { λ r. ⌜ now (half .exit) ≡ pushed (now (half .entry)) n h c w ⌝ }
+{
+    let at = place(half, n, h);
+    half[3584 + c] = half[at];
+    half[at] = w;
 }
 
 // Row c goes into the half, under the longest row in it that begins row c.
@@ -269,7 +297,7 @@ pub fn insert(file: &[u8], places: &[u32], n: usize, half: &mut [u32], c: usize,
         let next = placed_rows::first(placed_rows::beyond(bytes, k, back), back);
         let h = bucket(p, next);
         marks::mark(half, MARKS, child_key(p, next));
-        push(half, h, c, word_of(c, p, bytes.len()));
+        push(half, n, h, c, word_of(c, p, bytes.len()));
     }
 }
 

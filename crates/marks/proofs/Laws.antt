@@ -1,7 +1,7 @@
 -- Which keys are marked after one number has changed, and that only one number counts for a key. Assumes nothing.
 use mathlib.Core.Path.{_≡_, refl, sym, ap, _∙_}
 use mathlib.Core.List.{List}
-use mathlib.Core.Bool.{Bool, true, false, not}
+use mathlib.Core.Bool.{Bool, true, false, not, _&&_, true≢false}
 use Prim.Native.Nat.{ℕ, zero, suc, _+_, _*_, _/_, _%_, _^_, _<_, _≤_}
 use native.Mathlib.Decide.{ℕ-discrete}
 use native.Mathlib.Nat.{one-mul}
@@ -13,16 +13,20 @@ use lib.Dec.{eqb}
 use borrow.Author.Tests.{eq-eqb}
 use Rattle.bitfield.specs.Bits.{wordBit, without}
 use Rattle.bitfield.proofs.Without.{without-same, without-other}
-use Rattle.marks.specs.Marks.{marked, Marks}
+use Rattle.marks.specs.Marks.{bothClear, marked, Marks}
 
--- a remainder by 2 is 0 or 1
-even : (n : ℕ) → eqb (n % 2) 0 ≡ not (eqb (n % 2) 1)
-even n = go (n % 2) (omega arith)
+-- two remainders by 2 are both 0 if their sum is
+both-even : (m n : ℕ) → eqb (m % 2 + n % 2) 0 ≡ not (eqb (m % 2) 1) && not (eqb (n % 2) 1)
+both-even m n = go (m % 2) (n % 2) (omega arith) (omega arith)
   where
-    go : (d : ℕ) → d < 2 → eqb d 0 ≡ not (eqb d 1)
-    go zero h = refl
-    go (suc zero) h = refl
-    go (suc (suc d)) h = absurd (omega arith)
+    go : (c d : ℕ) → c < 2 → d < 2 → eqb (c + d) 0 ≡ not (eqb c 1) && not (eqb d 1)
+    go zero zero h i = refl
+    go zero (suc zero) h i = refl
+    go (suc zero) zero h i = refl
+    go (suc zero) (suc zero) h i = refl
+    go zero (suc (suc d)) h i = absurd (omega arith)
+    go (suc zero) (suc (suc d)) h i = absurd (omega arith)
+    go (suc (suc c)) d h i = absurd (omega arith)
 
 -- `1 << k`
 pub mask : (k : ℕ) → k < 32 → 1 * 2 ^ k % 2 ^ 32 ≡ 2 ^ k
@@ -37,58 +41,80 @@ pub bit-clear : (w k : ℕ) → (w / 2 ^ k % 2 ≡ 1 → ⊥) → wordBit w k �
 unfolding wordBit
 bit-clear w k n = let e : w / 2 ^ k % 2 ≡ 0 = omega arith in rw e
 
-module _ (numbers : List ℕ) (base : ℕ) where
-  -- what `is_marked` computes
-  pub marked-is : (k : ℕ) → eqb (getD numbers (base + k / 32) 0 / 2 ^ (k % 32) % 2) 0 ≡ marked numbers base k
-  unfolding marked wordBit
-  marked-is k = even (getD numbers (base + k / 32) 0 / 2 ^ (k % 32))
+-- a word v that is w without its bit p: the bit is clear, and one that was clear is
+module _ (w p v : ℕ) (e : wordBit v ≡ without (wordBit w) p) where
+  clears : wordBit v p ≡ false
+  clears = ap (λ (f : ℕ → Bool). f p) e ∙ without-same (wordBit w) p
 
-  -- only one number counts for a key
-  pub marked-same : (numbers' : List ℕ) (k : ℕ) → getD numbers' (base + k / 32) 0 ≡ getD numbers (base + k / 32) 0 → marked numbers' base k ≡ marked numbers base k
-  unfolding marked
-  marked-same numbers' k e = ap (λ (x : ℕ). not (wordBit x (k % 32))) e
-
-  marked-clear : (k : ℕ) → wordBit (getD numbers (base + k / 32) 0) (k % 32) ≡ false → marked numbers base k ≡ true
-  unfolding marked
-  marked-clear k e = ap not e
-
-  clear-marked : (k : ℕ) → marked numbers base k ≡ true → wordBit (getD numbers (base + k / 32) 0) (k % 32) ≡ false
-  unfolding marked
-  clear-marked k e = go (wordBit (getD numbers (base + k / 32) 0) (k % 32)) e
+  stays-clear : (q : ℕ) → wordBit w q ≡ false → wordBit v q ≡ false
+  stays-clear q f = ap (λ (g : ℕ → Bool). g q) e ∙ go (ℕ-discrete q p)
     where
-      go : (b : Bool) → not b ≡ true → b ≡ false
-      go true z = sym z
-      go false z = refl
+      go : Dec (q ≡ p) → without (wordBit w) p q ≡ false
+      go (yes z) = rw z (without-same (wordBit w) p)
+      go (no n) = without-other (wordBit w) p q n ∙ f
 
--- marking key k: the number at its place is now v, without the key's bit
-module _ (numbers : List ℕ) (base k v : ℕ) (inside : base + k / 32 < length numbers)
-    (cleared : wordBit v ≡ without (wordBit (getD numbers (base + k / 32) 0)) (k % 32)) where
+-- two clear bits, and each of them
+module _ (w a b : ℕ) where
+  clear-both : wordBit w a ≡ false → wordBit w b ≡ false → bothClear w a b ≡ true
+  unfolding bothClear
+  clear-both e f = rw (e, f)
+
+  both-clear : bothClear w a b ≡ true → (wordBit w a ≡ false) × (wordBit w b ≡ false)
+  unfolding bothClear
+  both-clear = go (wordBit w a) (wordBit w b)
+    where
+      go : (x y : Bool) → not x && not y ≡ true → (x ≡ false) × (y ≡ false)
+      go false false z = (refl, refl)
+      go false true z = (refl, sym z)
+      go true y z = absurd (true≢false (sym z))
+
+-- a word v that is w without its bits a and b: both are clear, and two that were clear are
+module _ (w a u b v : ℕ) (first : wordBit u ≡ without (wordBit w) a) (second : wordBit v ≡ without (wordBit u) b) where
+  both-new : bothClear v a b ≡ true
+  both-new = clear-both v a b (stays-clear u b v second a (clears w a u first)) (clears u b v second)
+
+  both-old : (i j : ℕ) → bothClear w i j ≡ true → bothClear v i j ≡ true
+  both-old i j e = let z = both-clear w i j e in clear-both v i j (still i (z .0)) (still j (z .1))
+    where
+      still : (q : ℕ) → wordBit w q ≡ false → wordBit v q ≡ false
+      still q f = stays-clear u b v second q (stays-clear w a u first q f)
+
+-- the two bits of a key, in the number that counts for it
+marked-in : (numbers : List ℕ) (base w k : ℕ) → getD numbers (base + k / 1024) 0 ≡ w → marked numbers base k ≡ bothClear w (k / 32 % 32) (k % 32)
+unfolding marked
+marked-in numbers base w k e = ap (λ (x : ℕ). bothClear x (k / 32 % 32) (k % 32)) e
+
+module _ (numbers : List ℕ) (base : ℕ) where
+  -- only one number counts for a key
+  pub marked-same : (numbers' : List ℕ) (k : ℕ) → getD numbers' (base + k / 1024) 0 ≡ getD numbers (base + k / 1024) 0 → marked numbers' base k ≡ marked numbers base k
+  unfolding marked
+  marked-same numbers' k e = marked-in numbers' base (getD numbers (base + k / 1024) 0) k e
+
+  -- what `is_marked` computes
+  pub marked-is : (k : ℕ) → eqb (getD numbers (base + k / 1024) 0 / 2 ^ (k / 32 % 32) % 2 + getD numbers (base + k / 1024) 0 / 2 ^ (k % 32) % 2) 0 ≡ marked numbers base k
+  unfolding marked bothClear wordBit
+  marked-is k = both-even (getD numbers (base + k / 1024) 0 / 2 ^ (k / 32 % 32)) (getD numbers (base + k / 1024) 0 / 2 ^ (k % 32))
+
+-- marking key k: the number at its place is v, without the key's two bits
+module _ (numbers : List ℕ) (base k u v : ℕ) (inside : base + k / 1024 < length numbers)
+    (first : wordBit u ≡ without (wordBit (getD numbers (base + k / 1024) 0)) (k / 32 % 32)) (second : wordBit v ≡ without (wordBit u) (k % 32)) where
+  abbrev was : ℕ
+  was = getD numbers (base + k / 1024) 0
+
   abbrev after : List ℕ
-  after = set numbers (base + k / 32) v
+  after = set numbers (base + k / 1024) v
 
-  here : getD after (base + k / 32) 0 ≡ v
-  here = getD-set-same numbers (base + k / 32) v 0 inside
+  here : (j : ℕ) → j / 1024 ≡ k / 1024 → getD after (base + j / 1024) 0 ≡ v
+  here j e = ap (λ (i : ℕ). getD after (base + i) 0) e ∙ getD-set-same numbers (base + k / 1024) v 0 inside
 
   new : marked after base k ≡ true
-  new = marked-clear after base k (ap (λ (x : ℕ). wordBit x (k % 32)) here ∙ ap (λ (f : ℕ → Bool). f (k % 32)) cleared ∙ without-same (wordBit (getD numbers (base + k / 32) 0)) (k % 32))
+  new = marked-in after base v k (here k refl) ∙ both-new was (k / 32 % 32) u (k % 32) v first second
 
-  old : (j : ℕ) → marked numbers base j ≡ true → Dec (j / 32 ≡ k / 32) → Dec (j % 32 ≡ k % 32) → marked after base j ≡ true
-  old j m (yes e) (yes f) = let z : j ≡ k = omega arith in rw z new
-  old j m (yes e) (no n) =
-      let p : base + j / 32 ≡ base + k / 32 = omega arith in
-      marked-clear after base j (
-      ap (λ (i : ℕ). wordBit (getD after i 0) (j % 32)) p
-      ∙ ap (λ (x : ℕ). wordBit x (j % 32)) here ∙ ap (λ (g : ℕ → Bool). g (j % 32)) cleared
-      ∙ without-other (wordBit (getD numbers (base + k / 32) 0)) (k % 32) (j % 32) n
-      ∙ ap (λ (i : ℕ). wordBit (getD numbers i 0) (j % 32)) (sym p)
-      ∙ clear-marked numbers base j m
-      )
-  old j m (no n) d = marked-same numbers base after j (getD-set-other numbers (base + k / 32) (base + j / 32) v 0 (λ z. n (omega arith))) ∙ m
+  old : (j : ℕ) → marked numbers base j ≡ true → Dec (j / 1024 ≡ k / 1024) → marked after base j ≡ true
+  old j m (yes e) =
+      let z : bothClear was (j / 32 % 32) (j % 32) ≡ true = sym (marked-in numbers base was j (ap (λ (i : ℕ). getD numbers (base + i) 0) e)) ∙ m in
+      marked-in after base v j (here j e) ∙ both-old was (k / 32 % 32) u (k % 32) v first second (j / 32 % 32) (j % 32) z
+  old j m (no n) = marked-same numbers base after j (getD-set-other numbers (base + k / 1024) (base + j / 1024) v 0 (λ z. n (omega arith))) ∙ m
 
   pub marks : Marks numbers base k after
-  marks = record {
-    number = v;
-    is = refl;
-    new = new;
-    old = λ j m. old j m (ℕ-discrete (j / 32) (k / 32)) (ℕ-discrete (j % 32) (k % 32));
-  }
+  marks = record { number = v; is = refl; new = new; old = λ j m. old j m (ℕ-discrete (j / 1024) (k / 1024)) }

@@ -1,4 +1,4 @@
-// A set of keys, one bit for each: a clear bit says that the key is marked. A key that is not marked needs no look-up.
+// A set of keys, two bits of one number for each: where both are clear the key is marked. A key that is not marked needs no look-up.
 ghost use mathlib.Core.Path.{_≡_};
 ghost use Prim.Native.Nat.{_+_, _/_, _<_, _≤_};
 ghost use lib.ListN.{length};
@@ -19,17 +19,18 @@ fn word_without(word: u32, k: usize) -> u32
 
 // Whether a key is marked.
 pub fn is_marked(numbers: &[u32], base: usize, key: usize) -> bool
-    requires { ⌜ (base ≤ 16384) × (base + key / 32 < length (now numbers)) ⌝ }
+    requires { ⌜ (base ≤ 16384) × (base + key / 1024 < length (now numbers)) ⌝ }
     ensures { λ r. ⌜ r ≡ marked (now (numbers .entry)) base key ⌝ }
 {
-    (numbers[base + key / 32] >> (key % 32)) % 2 == 0
+    let word = numbers[base + key / 1024];
+    (word >> (key / 32 % 32)) % 2 + (word >> (key % 32)) % 2 == 0
 }
 
 // Marks a key.
 pub fn mark(numbers: &mut [u32], base: usize, key: usize)
-    requires { ⌜ (base ≤ 16384) × (base + key / 32 < length (now numbers)) ⌝ }
+    requires { ⌜ (base ≤ 16384) × (base + key / 1024 < length (now numbers)) ⌝ }
     ensures { λ _. ⌜ Marks (now (numbers .entry)) base key (now (numbers .exit)) ⌝ }
 {
-    let at = base + key / 32;
-    numbers[at] = word_without(numbers[at], key % 32);
+    let at = base + key / 1024;
+    numbers[at] = word_without(word_without(numbers[at], key / 32 % 32), key % 32);
 }

@@ -81,7 +81,7 @@ module _ (lefts rights area : List ℕ) (w l r : ℕ) where
   written-marked k area' e h m = record {
     lefts-are = refl;
     rights-are = refl;
-    kept = rw (m .is) (kept-set area (15360 + k / 32) (m .number) (omega arith) (key-inside l r k 16384 e (omega arith)));
+    kept = rw (m .is) (kept-set area (15360 + k / 1024) (m .number) (omega arith) (key-inside l r k 16384 e (omega arith)));
     new = λ b. rw (← e) (m .new);
     old = m .old;
   }

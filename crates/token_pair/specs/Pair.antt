@@ -25,9 +25,9 @@ pub record Tells (D : Dictionary) (file lefts rights : List ℕ) (q : ℕ) : Typ
   pub right : (c : ℕ) → c < q → getD rights c 0 ≡ D .right c
   pub joined : (c : ℕ) → c < q → D .long c ≡ true → D .bytes (D .left c) ++ D .bytes (D .right c) ≡ D .bytes c
 
--- the key of two codes: the upper 15 of the lower 32 bits of a product
+-- the key of two codes: the upper 20 of the lower 32 bits of a product
 unfoldable pub pairKey : ℕ → ℕ → ℕ
-pairKey u v = (u % 4096 * 4096 + v % 4096) * 2654435769 % 4294967296 / 131072
+pairKey u v = (u % 4096 * 4096 + v % 4096) * 2654435769 % 4294967296 / 4096
 
 -- the marks of pairs, from number 15,360 of the search area on: the two parts of every longer row below q are marked
 abbrev pub PairsMarked : List ℕ → List ℕ → List ℕ → ℕ → Type 0

@@ -12,7 +12,7 @@ pub fn pair_key(left: u32, right: u32) -> usize
     ensures { λ r. ⌜ r ≡ pairKey left right ⌝ }
 {
     let pair = (left % 4096) as u64 * 4096 + (right % 4096) as u64;
-    (pair * 2654435769 % 4294967296 / 131072) as usize
+    (pair * 2654435769 % 4294967296 / 4096) as usize
 }
 
 // Whether row c comes before the join last undone and has the two as its parts.

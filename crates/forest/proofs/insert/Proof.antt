@@ -41,7 +41,7 @@ word-of-requires c κs =
 push-requires : tie.Need-push-requires
 push-requires c κs =
     let s = c .before .before .before .before .before .before .before .before .before .before .before .before .before .before .before .before .before in
-    (omega (arith, s .pre .0 .few, s .pre .1 .1 .0), (c .before .before .before .before .before .before .before .bucket .ensures .below, omega (arith, s .pre .1 .0, length-marked _ _ _ (c .before .before .before .before .mark .ensures))))
+    (s .pre .0 .few, (omega (arith, s .pre .0 .few, s .pre .1 .1 .0), (c .before .before .before .before .before .before .before .bucket .ensures .below, omega (arith, s .pre .1 .0, length-marked _ _ _ (c .before .before .before .before .mark .ensures)))))
 
 same-length : tie.Need-same-length
 same-length c = search needs

@@ -1,4 +1,4 @@
--- A word of the root's bucket that has the root as its prefix and one byte is the root's child. Assumes nothing.
+-- The first word of the root's bucket, where its row has one byte, is the word of the root's child. Assumes nothing.
 use mathlib.Core.Path.{refl, ap, _∙_}
 use native.Mathlib.Omega.{arith}
 use borrow.Author.Needs.{needs}
@@ -27,30 +27,26 @@ mul-w c = search needs
 shared-slice-read-w : tie.Need-shared-slice-read-w
 shared-slice-read-w c = search needs
 
-row-of-requires : tie.Need-row-of-requires
-row-of-requires c κs = search needs
+is-one-longer-requires : tie.Need-is-one-longer-requires
+is-one-longer-requires c κs = search needs
+
+returns-2 : tie.Need-returns-2
+returns-2 c R ne =
+    let s = c .before .before .before .before .before .before .before .before in
+    let f = c .before .before .before .before .first .ensures in
+    let h = c .before .before .before .bucket in
+    let o = c .before .is-one-longer .ensures (c .if2 .taken) in
+    search-one R _ _ _ _ _ _ (h .result) 1 (h .ensures .is ∙ ap (bucketOf none) (f .is)) refl o (s .pre .0)
+    (omega (arith, f .is, f .below))
+    (omega (arith, facing-length (s .args .back) (s .args .text .now), c .before .before .before .before .before .if1 .left))
+    (let z = o .one in omega arith)
+    (omega arith)
 
 no-match-requires-2 : tie.Need-no-match-requires-2
 no-match-requires-2 c κs = search needs
 
-returns-2 : tie.Need-returns-2
-returns-2 c R ne = absurd (ne (c .no-match2 .ensures))
-
-no-match-requires-3 : tie.Need-no-match-requires-3
-no-match-requires-3 c κs = search needs
-
 returns-3 : tie.Need-returns-3
-returns-3 c R ne = absurd (ne (c .no-match3 .ensures))
-
-returns-4 : tie.Need-returns-4
-returns-4 c R ne =
-    let s = c .before .before .before .before .before .before .before .before .before in
-    let f = c .before .before .before .before .before .first .ensures in
-    let b = c .before .before .before .before .bucket in
-    search-one R _ _ _ _ _ _ (b .result) refl refl (b .ensures .is ∙ ap (bucketOf none) (f .is)) refl (omega (arith, c .before .before .row-of .ensures .is, c .before .if2 .left)) (s .pre .0)
-    (omega (arith, f .is, f .below))
-    (omega (arith, facing-length (s .args .back) (s .args .text .now), c .before .before .before .before .before .before .if1 .left))
-    (c .if3 .left)
+returns-3 c R ne = absurd (ne (c .no-match2 .ensures))
 
 pub one-byte-row-spec : {M : Type 1} → statement M
 one-byte-row-spec =
@@ -62,9 +58,7 @@ one-byte-row-spec =
     bucket-requires
     mul-w
     shared-slice-read-w
-    row-of-requires
-    no-match-requires-2
+    is-one-longer-requires
     returns-2
-    no-match-requires-3
-    returns-3
-    returns-4)
+    no-match-requires-2
+    returns-3)

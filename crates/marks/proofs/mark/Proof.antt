@@ -1,4 +1,4 @@
--- `marks::mark` meets its contract: one number is now without the key's bit. Assumes nothing.
+-- `marks::mark` meets its contract: one number is without the key's two bits. Assumes nothing.
 use Rattle.marks.proofs.Laws.{marks}
 use borrow.Author.Needs.{needs}
 use Rattle.marks.proofs.mark.Statement.{statement}
@@ -16,6 +16,9 @@ slice-read-word-without c = search needs
 word-without-requires : tie.Need-word-without-requires
 word-without-requires c κs = search needs
 
+word-without-requires-2 : tie.Need-word-without-requires-2
+word-without-requires-2 c κs = search needs
+
 mul-numbers : tie.Need-mul-numbers
 mul-numbers c = search needs
 
@@ -26,7 +29,7 @@ same-length : tie.Need-same-length
 same-length c = search needs
 
 returns : tie.Need-returns
-returns c = marks _ _ _ _ (c .before .before .before .pre .1) (c .word-without .ensures)
+returns c = marks _ _ _ _ _ (c .before .before .before .before .pre .1) (c .before .word-without .ensures) (c .word-without2 .ensures)
 
 pub mark-spec : {M : Type 1} → statement M
 mark-spec =
@@ -36,6 +39,7 @@ mark-spec =
     mul-word-without
     slice-read-word-without
     word-without-requires
+    word-without-requires-2
     mul-numbers
     slice-write-numbers
     same-length

@@ -23,27 +23,11 @@ word-len d q l h k = omega arith
 
 pub bucket-small : (q b : ℕ) → b < 256 → bucketOf q b < 2560
 unfolding bucketOf
-bucket-small q b h = go (eqb q none) refl
-  where
-    go : (r : Bool) → eqb q none ≡ r → bucketOf q b < 2560
-    go true e = rw (e, bucketOf) (omega arith)
-    go false e = rw (e, bucketOf) (omega arith)
+bucket-small q b h = omega arith
 
 pub bucket-byte : (q b c : ℕ) → bucketOf q b ≡ bucketOf q c → b ≡ c
 unfolding bucketOf
-bucket-byte q b c = go (eqb q none) refl
-  where
-    go : (r : Bool) → eqb q none ≡ r → bucketOf q b ≡ bucketOf q c → b ≡ c
-    go true e h = rw (e, bucketOf) at h
-    go false e h = let z : 256 + q % 8192 * 2654435769 % 4294967296 / 2097152 + b ≡ 256 + q % 8192 * 2654435769 % 4294967296 / 2097152 + c = rw (e, bucketOf) at h in omega arith
-
-pub bucket-root : (q b : ℕ) → q ≡ none → bucketOf q b ≡ b
-unfolding bucketOf
-bucket-root q b e = rw (eq-eqb q none e, bucketOf)
-
-pub bucket-row : (q b : ℕ) → (q ≡ none → ⊥) → bucketOf q b ≡ 256 + q % 8192 * 2654435769 % 4294967296 / 2097152 + b
-unfolding bucketOf
-bucket-row q b e = rw (ne-eqb q none e, bucketOf)
+bucket-byte q b c h = omega arith
 
 -- a key is one of 1,048,576, in 1,024 numbers
 pub key-small : (q b : ℕ) → childKey q b < 1048576

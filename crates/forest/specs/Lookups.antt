@@ -60,6 +60,7 @@ pub record OneLonger (n w p len : ℕ) : Type 0 where
   pub below : row-of w < n
   pub under : code-of w ≡ code p
   pub one : len-of w ≡ len + 1
+  pub short : len-of w < 65
 
 -- r is none, or the root's child that goes on as text does, and l its length
 abbrev pub OneByte : (ℕ → List ℕ) → ℕ → List ℕ → List ℕ → ℕ → ℕ → Type 0

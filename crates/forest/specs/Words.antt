@@ -1,5 +1,5 @@
 -- The arrangement of one half of the search area: 2,560 heads of buckets, then 1,024 numbers of marks, then 4,096 links. A bucket has the rows of one
--- hash of prefix and next byte; the one-byte rows have buckets of their own. A head or a link holds a word, which packs a row, its prefix and its length, or
+-- hash of prefix and next byte. A head or a link holds a word, which packs a row, its prefix and its length, or
 -- none. A prefix and a next byte that are not marked have no row. Assumes nothing.
 use mathlib.Core.Path.{_≡_}
 use mathlib.Core.List.{List, [], _∷_}
@@ -37,11 +37,11 @@ len-of w = w / 67108864 + 1
 
 -- the bucket of the rows whose prefix is q, and whose next byte is b
 unfoldable pub bucketOf : ℕ → ℕ → ℕ
-bucketOf q b = elim (eqb q none) [ true ↦ b | false ↦ 256 + q % 8192 * 2654435769 % 4294967296 / 2097152 + b ]
+bucketOf q b = q % 8192 * 2654435769 % 4294967296 / 2097152 + b
 
 -- the key under which they are marked, and where the marks begin
 unfoldable pub childKey : ℕ → ℕ → ℕ
-childKey q b = (q % 8192 * 256 + b) * 2654435769 % 4294967296 / 4096
+childKey q b = bucketOf q b % 1024 * 1024 + q % 1024
 
 abbrev pub marksFrom : ℕ
 marksFrom = 2560

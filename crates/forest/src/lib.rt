@@ -48,28 +48,22 @@ fn word_of(c: usize, p: u32, l: usize) -> u32
 fn bucket(p: u32, b: u8) -> usize
     ensures { λ r. ⌜ Small (bucketOf p b) 2560 r ⌝ }
 {
-    if p == NONE {
-        return b as usize;
-    }
-    256 + (p as usize % 8192) * 2654435769 % 4294967296 / 2097152 + b as usize
+    (p as usize % 8192) * 2654435769 % 4294967296 / 2097152 + b as usize
 }
 
 // The key under which the prefix p and the next byte b are marked.
 fn child_key(p: u32, b: u8) -> usize
     ensures { λ r. ⌜ Small (childKey p b) 1048576 r ⌝ }
 {
-    ((p as usize % 8192) * 256 + b as usize) * 2654435769 % 4294967296 / 4096
+    bucket(p, b) % 1024 * 1024 + p as usize % 1024
 }
 
-// Whether the marks say that no row has the prefix p and the next byte b. Each byte has a row, so the root is not asked about.
-fn has_no_child(half: &[u32], p: u32, b: u8) -> bool
+// Whether the prefix p and the next byte b are marked: else no row has them.
+fn may_have_child(half: &[u32], p: u32, b: u8) -> bool
     requires { ⌜ 7680 ≤ length (now half) ⌝ }
-    ensures { λ r. ⌜ (r ≡ true → marked (now (half .entry)) marksFrom (childKey p b) ≡ false) ⌝ }
+    ensures { λ r. ⌜ r ≡ marked (now (half .entry)) marksFrom (childKey p b) ⌝ }
 {
-    if p == NONE {
-        return false;
-    }
-    !marks::is_marked(half, MARKS, child_key(p, b))
+    marks::is_marked(half, MARKS, child_key(p, b))
 }
 
 // Is w the word of a row whose prefix is p, of len bytes, and that goes on as rest does?
@@ -117,6 +111,41 @@ fn is_one_longer(n: usize, w: u32, p: u32, len: usize) -> bool
     len_of(w) - 1 == len
 }
 
+// The child of p, of len bytes, that goes on as rest does, among the rows of its bucket, or NONE.
+fn listed_child(
+    file: &[u8],
+    places: &[u32],
+    n: usize,
+    half: &[u32],
+    p: u32,
+    len: usize,
+    rest: &[u8],
+    back: bool,
+) -> Match
+    requires { ⌜ Placed (now file) (now places) n ⌝ }
+    requires { ⌜ (7680 ≤ length (now half)) × (0 < length (now rest)) ⌝ }
+    ensures { λ r. ⌜ ChildIs (rowFacing back (now (file .entry)) (now (places .entry)) n) n (now (half .entry)) p len (facing back (now (rest .entry))) (r .row) (r .len) ⌝ }
+{
+    let next = placed_rows::first(rest, back);
+    let mut w = half[bucket(p, next)];
+    let mut left = n;
+    while left > 0 {
+        let i = row_of(w);
+        if n <= i {
+            return no_match();
+        }
+        if fits(file, places, n, w, p, len, rest, back) {
+            return Match {
+                row: w % 8192,
+                len: len_of(w),
+            };
+        }
+        w = half[3584 + i];
+        left -= 1;
+    }
+    no_match()
+}
+
 // The child of p, of len bytes, that goes on as rest does, or NONE. A row that is one byte longer, and first in its bucket, is found by one load.
 pub fn child(
     file: &[u8],
@@ -136,30 +165,15 @@ pub fn child(
         return no_match();
     }
     let next = placed_rows::first(rest, back);
-    let mut w = half[bucket(p, next)];
+    let w = half[bucket(p, next)];
     if is_one_longer(n, w, p, len) {
         return Match {
             row: w % 8192,
-            len: len_of(w),
+            len: len + 1,
         };
     }
-    if has_no_child(half, p, next) {
-        return no_match();
-    }
-    let mut left = n;
-    while left > 0 {
-        let i = row_of(w);
-        if n <= i {
-            return no_match();
-        }
-        if fits(file, places, n, w, p, len, rest, back) {
-            return Match {
-                row: w % 8192,
-                len: len_of(w),
-            };
-        }
-        w = half[3584 + i];
-        left -= 1;
+    if may_have_child(half, p, next) {
+        return listed_child(file, places, n, half, p, len, rest, back);
     }
     no_match()
 }
@@ -235,7 +249,10 @@ pub fn root_child(
     if first.row != NONE {
         return first;
     }
-    child(file, places, n, half, NONE, 0, text, back)
+    if text.len() > 0 {
+        return listed_child(file, places, n, half, NONE, 0, text, back);
+    }
+    no_match()
 }
 
 // The longest row that begins text, with its length, or NONE and 0.

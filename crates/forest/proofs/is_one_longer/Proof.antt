@@ -32,6 +32,7 @@ returns-3 c e =
       below = omega (arith, c .before .before .if1 .left);
       under = c .before .if2 .left;
       one = omega arith;
+      short = omega (arith, c .len-of .ensures .below);
     }
 
 pub is-one-longer-spec : {M : Type 1} → statement M

@@ -1,5 +1,6 @@
 -- The rows that begin a text are tried, shortest first, and the best so far is kept: the one with the fewest codes, of equals the longest. Assumes nothing.
-use mathlib.Core.Path.{_≡_, refl, ap}
+use mathlib.Core.Path.{_≡_, refl, sym, ap}
+use mathlib.Core.Logic.{inl, inr}
 use mathlib.Core.List.{List, []}
 use Prim.Native.Nat.{ℕ, _≤_, _<_}
 use native.Mathlib.Decide.{decLt}
@@ -8,7 +9,6 @@ use lib.ListN.{length}
 use Rattle.placed_rows.specs.Rows.{none}
 use Rattle.placed_rows.specs.Texts.{Begins}
 use Rattle.search_area.specs.Answers.{Reached, Longer}
-use Rattle.shortest_encoder.proofs.Rising.{reached-none, reached-more}
 
 -- rows R, n of them, at the front of t; a row of l bytes makes g l codes, and most is as much as any row makes
 module _ (R : ℕ → List ℕ) (n : ℕ) (t : List ℕ) (g : ℕ → ℕ) (most : ℕ) where
@@ -23,7 +23,7 @@ module _ (R : ℕ → List ℕ) (n : ℕ) (t : List ℕ) (g : ℕ → ℕ) (most
 
   pub best-start : (count best : ℕ) → R none ≡ [] → ((d : ℕ) → d < n → 0 < length (R d)) → most ≤ count → Best count best none 0
   best-start count best root filled h = record {
-    reached = reached-none R n t root;
+    reached = record { known = inl refl; begins = record { rest = t; split = rw root }; size = sym (ap length root) };
     start = λ z. h;
     begins = λ ne. absurd (ne refl);
     is = λ ne. absurd (ne refl);
@@ -33,7 +33,7 @@ module _ (R : ℕ → List ℕ) (n : ℕ) (t : List ℕ) (g : ℕ → ℕ) (most
 
   module _ (count best p len : ℕ) (B : Best count best p len) (r l : ℕ) (L : Longer R n t len r l) (h : r < n) (ne : r ≡ none → ⊥) where
     now-reached : Reached R n t r l
-    now-reached = reached-more R n t len r l L h ne
+    now-reached = record { known = inr h; begins = L .is ne .0; size = L .is ne .1 }
 
     -- a row up to this one was tried before, or is as long
     module _ (d : ℕ) (k : d < n) (b : Begins (R d) t) (s : length (R d) ≤ l) where

@@ -1,5 +1,4 @@
 pub mod Counts
-pub mod Rising
 pub mod Keeping
 pub mod Trying
 pub mod Placing

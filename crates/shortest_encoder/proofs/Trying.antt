@@ -8,6 +8,7 @@ use lib.ListN.{length, length-drop, getD, drop}
 use lib.Seq.{getD-drop}
 use Rattle.placed_rows.specs.Rows.{none, row}
 use Rattle.placed_rows.specs.Texts.{Begins}
+use Rattle.placed_rows.proofs.Placing.{row-none}
 use Rattle.placed_rows.proofs.Beginning.{begins-length}
 use Rattle.theory.specs.Dictionary.{Dictionary, Octets, KnownText}
 use Rattle.theory.specs.Parts.{rowsAt}
@@ -20,7 +21,6 @@ use Rattle.built.specs.Built.{dictionaryOf, Built}
 use Rattle.built.proofs.Rows.{octets, count-is, row-bytes, lawful-is, known}
 use Rattle.shortest_encoder.specs.Entries.{entry, countFrom, AreEntries, EntryReady, EntryIs}
 use Rattle.shortest_encoder.proofs.Counts.{count-few, entry-gives, counts-are}
-use Rattle.shortest_encoder.proofs.Rising.{none-empty, within}
 use Rattle.shortest_encoder.proofs.Keeping.{Best, best-start, best-replaced, best-kept}
 
 -- each element of a text is an octet
@@ -57,8 +57,8 @@ module _ (file places area : List ℕ) (n : ℕ) (text work : List ℕ) (i : ℕ
   row-some : (c : ℕ) → c < n → 0 < length (row file places n c)
   row-some c h = let f = R .ready .places-ready .filled c h in rw (R .ready .places-ready .rows-are c h) f
 
-  root-empty : row file places n none ≡ []
-  root-empty = none-empty file places n (R .ready .places-ready .placed)
+  none-empty : row file places n none ≡ []
+  none-empty = row-none file places n none (let f = small in omega arith)
 
   -- a row and the codes behind it are at most as many as the bytes
   codes-few : (l : ℕ) → 0 < l → i + l ≤ length text → codesWith work (length text) i l ≤ length text - i
@@ -75,7 +75,7 @@ module _ (file places area : List ℕ) (n : ℕ) (text work : List ℕ) (i : ℕ
         inside = omega arith;
         best-row = omega arith;
         few = omega arith;
-        tried = λ lefts rights prefixes B. best-start (row file places n) n (drop i text) (codesWith work (length text) i) (length text - i) ((length text - i) * 4096 / 4096) ((length text - i) * 4096 % 4096) root-empty row-some (omega arith);
+        tried = λ lefts rights prefixes B. best-start (row file places n) n (drop i text) (codesWith work (length text) i) (length text - i) ((length text - i) * 4096 / 4096) ((length text - i) * 4096 % 4096) none-empty row-some (omega arith);
       }
 
   -- on the tables of a build, with the entries of the later places
@@ -132,7 +132,7 @@ module _ (file places area : List ℕ) (n : ℕ) (text work : List ℕ) (i : ℕ
     -- where all rows at the place are tried, the best is that row
     module _ (count best p len : ℕ) (T : Tried file places n text work i count best p len) (h : best < n) (all : length (row file places n wanted) ≤ len) where
       some : p ≡ none → ⊥
-      some z = omega (arith, row-some wanted wanted-row, T .reached .size, ap (λ (x : ℕ). length (row file places n x)) z, ap length root-empty)
+      some z = omega (arith, row-some wanted wanted-row, T .reached .size, ap (λ (x : ℕ). length (row file places n x)) z, ap length none-empty)
 
       best-is : best ≡ wanted
       best-is =
@@ -191,18 +191,18 @@ module _ (file places area : List ℕ) (n : ℕ) (text work : List ℕ) (i best 
     trying-stops z = done (λ lefts rights prefixes B d k b. M .next (B .finds) (T .tried lefts rights prefixes B .reached) .all z d k b)
 
     module _ (ne : r ≡ none → ⊥) where
-      longer : Within n len (length (drop i text)) r l
-      longer = within file places n area (drop i text) p len r l M ne
+      pub within : Within n len (length (drop i text)) r l
+      within = ⊎-elim (λ z. absurd (ne z)) (λ w. w) (M .bound)
 
       pub next-inside : i + l ≤ length text
-      next-inside = let s = T .inside in omega (arith, longer .room, length-drop i text)
+      next-inside = let s = T .inside in omega (arith, within .room, length-drop i text)
 
       pub next-few : countFrom work (length text) (i + l) + 1 ≤ length text - i
-      next-few = codes-few file places area n text work i R l (omega (arith, longer .longer)) next-inside
+      next-few = codes-few file places area n text work i R l (omega (arith, within .longer)) next-inside
 
       replaced : codesWith work (length text) i l ≤ best / 4096 → Trying file places area n text work i (codesWith work (length text) i l * 4096 + r) r l
       replaced h =
-          let w = longer .below in
+          let w = within .below in
           let s = small file places area n text work i R in
           let f = next-few in
           let a : (codesWith work (length text) i l * 4096 + r) / 4096 ≡ codesWith work (length text) i l = omega arith in
@@ -225,7 +225,7 @@ module _ (file places area : List ℕ) (n : ℕ) (text work : List ℕ) (i best 
         best-row = T .best-row;
         few = T .few;
         tried = λ lefts rights prefixes B. best-kept (row file places n) n (drop i text) (codesWith work (length text) i) (length text - i)
-            (best / 4096) (best % 4096) p len (T .tried lefts rights prefixes B) r l (M .next (B .finds) (T .tried lefts rights prefixes B .reached)) (longer .below) ne next-few h;
+            (best / 4096) (best % 4096) p len (T .tried lefts rights prefixes B) r l (M .next (B .finds) (T .tried lefts rights prefixes B .reached)) (within .below) ne next-few h;
       }
 
       -- a turn: the longer row takes the place of the best one if it makes as few codes

@@ -1,12 +1,9 @@
 // The fewest codes of a text, and the longest row at each place: the cores of `encode_minimal` and `encode_greedy`.
 ghost use mathlib.Core.Path.{_≡_};
 ghost use Prim.Native.Nat.{_≤_};
-ghost use lib.ListN.{length, drop};
-ghost use Rattle.placed_rows.specs.Rows.{Placed};
-ghost use Rattle.search_area.specs.Answers.{NextMatch};
+ghost use lib.ListN.{length};
 ghost use Rattle.shortest_encoder.specs.Encoders.{EntriesReady, MinimalReady, MinimalIs, GreedyReady, GreedyIs};
 ghost use Rattle.shortest_encoder.specs.Entries.{countFrom, EntryReady, EntryIs, Entries, CodesReady, CodesRead};
-use placed_rows::Match;
 use placed_rows::NONE;
 
 // The number of codes behind a row that ends at place end, by the entry of that place.
@@ -110,29 +107,6 @@ pub fn encode_minimal_core(
     read_codes(file, places, n, text, work, out)
 }
 
-// The longest row that begins the text from i on, with its length, or NONE and 0: the rows at the place by rising length, the last of them.
-fn longest_at(file: &[u8], places: &[u32], area: &[u32], n: usize, text: &[u8], i: usize) -> Match
-    requires { ⌜ Placed (now file) (now places) n ⌝ }
-    requires { ⌜ (16384 ≤ length (now area)) × (i ≤ length (now text)) ⌝ }
-    ensures { λ r. ⌜ NextMatch (now (file .entry)) (now (places .entry)) n (now (area .entry)) (drop i (now (text .entry))) (r .row) (r .len) ⌝ }
-{
-    let first = search_area::first_match(file, places, n, area, text, i);
-    if first.row == NONE {
-        return Match { row: NONE, len: 0 };
-    }
-    let mut row = first.row;
-    let mut len = first.len;
-    while i + len < text.len() {
-        let more = search_area::longer_match(file, places, n, area, row, len, text, i);
-        if more.row == NONE {
-            return Match { row: row, len: len };
-        }
-        row = more.row;
-        len = more.len;
-    }
-    Match { row: row, len: len }
-}
-
 // The longest row at each place into out, and how many.
 pub fn encode_greedy_core(
     file: &[u8],
@@ -148,7 +122,7 @@ pub fn encode_greedy_core(
     let mut at = 0;
     let mut count = 0;
     while at < text.len() {
-        let next = longest_at(file, places, area, n, text, at);
+        let next = search_area::next_match(file, places, n, area, text, at);
         if next.row == NONE {
             return count;
         }

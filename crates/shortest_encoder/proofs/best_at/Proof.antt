@@ -4,8 +4,7 @@ use Prim.Native.Nat.{_+_, _-_, _<_, _≤_}
 use mathlib.Core.Logic.{inl, inr}
 use lib.ListN.{length}
 use native.Mathlib.Omega.{arith}
-use Rattle.shortest_encoder.proofs.Rising.{within}
-use Rattle.shortest_encoder.proofs.Trying.{Bytes, Trying, trying-start, trying-none, trying-first, trying-ends, trying-stops, next-inside, next-few, trying-more}
+use Rattle.shortest_encoder.proofs.Trying.{Bytes, Trying, trying-start, trying-none, trying-first, trying-ends, trying-stops, within, next-inside, next-few, trying-more}
 use Rattle.shortest_encoder.proofs.best_at.Statement.{statement}
 use Rattle.shortest_encoder.proofs.best_at.Tie as tie
 
@@ -20,7 +19,9 @@ text-bytes c k = omega (arith, c .before .shared-slice-known4 .given k)
 
 -- what is known of the first row
 first-below : (c : tie.Else1 Inv-loop μ-loop) → c .before .before .first-match .result .row < 4096
-first-below c = omega (arith, within _ _ _ _ _ _ _ _ _ (c .before .before .first-match .ensures) (c .if1 .left) .below, c .before .before .before .before .before .before .before .before .pre .ready .places-ready .placed .few)
+first-below c =
+    let t = trying-start _ _ _ _ _ _ _ (c .before .before .before .before .before .before .before .before .pre) (text-bytes (c .before .before .before)) in
+    omega (arith, within _ _ _ _ _ _ _ _ _ _ t _ _ (c .before .before .first-match .ensures) (c .if1 .left) .below, t .ready .ready .places-ready .placed .few)
 
 first-inside : (c : tie.Else1 Inv-loop μ-loop) → c .before .before .before .before .before .before .before .before .args .i + c .before .before .first-match .result .len ≤ length (c .before .before .before .before .before .before .before .before .args .text .now)
 first-inside c =
@@ -34,10 +35,10 @@ first-few c =
 
 -- and of a longer one
 longer : (c : tie.Else2 Inv-loop μ-loop) → c .before .before .before .before .loop .len < c .before .before .longer-match .result .len
-longer c = within _ _ _ _ _ _ _ _ _ (c .before .before .longer-match .ensures) (c .if2 .left) .longer
+longer c = within _ _ _ _ _ _ _ _ _ _ (c .before .before .before .before .loop .inv) _ _ (c .before .before .longer-match .ensures) (c .if2 .left) .longer
 
 below : (c : tie.Else2 Inv-loop μ-loop) → c .before .before .longer-match .result .row < 4096
-below c = omega (arith, within _ _ _ _ _ _ _ _ _ (c .before .before .longer-match .ensures) (c .if2 .left) .below, c .before .before .before .before .loop .inv .ready .ready .places-ready .placed .few)
+below c = let t = c .before .before .before .before .loop .inv in omega (arith, within _ _ _ _ _ _ _ _ _ _ t _ _ (c .before .before .longer-match .ensures) (c .if2 .left) .below, t .ready .ready .places-ready .placed .few)
 
 inside : (c : tie.Else2 Inv-loop μ-loop) → c .before .before .before .before .before .before .before .before .before .before .before .before .before .before .args .i + c .before .before .longer-match .result .len ≤ length (c .before .before .before .before .before .before .before .before .before .before .before .before .before .before .args .text .now)
 inside c = next-inside _ _ _ _ _ _ _ _ _ _ (c .before .before .before .before .loop .inv) _ _ (c .before .before .longer-match .ensures) (c .if2 .left)

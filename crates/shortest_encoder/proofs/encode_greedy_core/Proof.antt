@@ -16,14 +16,14 @@ abbrev μ-loop : tie.MeasureT-loop
 loop-holds : tie.Need-loop-holds Inv-loop μ-loop
 loop-holds c = taking-start _ _ _ _ _ _ (c .before .before .before .before .before .pre) (λ k. omega (arith, c .before .shared-slice-known4 .given k))
 
-longest-at-requires : tie.Need-longest-at-requires Inv-loop μ-loop
-longest-at-requires c κs = let s = c .before .loop .inv in (s .ready .places-ready .placed, (s .ready .area-room, s .place))
+next-match-requires : tie.Need-next-match-requires Inv-loop μ-loop
+next-match-requires c κs = let s = c .before .loop .inv in (s .ready .places-ready .placed, (s .ready .area-room, s .place))
 
 same-length : tie.Need-same-length Inv-loop μ-loop
 same-length c = c .before .before .before .before .loop .inv .written .size
 
 returns : tie.Need-returns Inv-loop μ-loop
-returns c = taking-stops _ _ _ _ _ _ _ _ _ (c .before .before .before .before .loop .inv) _ _ (c .before .before .before .loop-test .taken) (c .before .before .longest-at .ensures) (c .if1 .taken)
+returns c = taking-stops _ _ _ _ _ _ _ _ _ (c .before .before .before .before .loop .inv) _ _ (c .before .before .before .loop-test .taken) (c .before .before .next-match .ensures) (c .if1 .taken)
 
 mul-out : tie.Need-mul-out Inv-loop μ-loop
 mul-out c = let s = c .before .before .before .before .loop .inv in omega (arith, s .behind, s .place, s .ready .few)
@@ -35,13 +35,13 @@ add-count : tie.Need-add-count Inv-loop μ-loop
 add-count c = let s = c .before .before .before .before .loop .inv in omega (arith, s .behind, s .place, s .ready .few)
 
 add-at : tie.Need-add-at Inv-loop μ-loop
-add-at c = let s = c .before .before .before .before .before .loop .inv in omega (arith, s .ready .few, taking-fits _ _ _ _ _ _ _ _ _ s _ _ (c .before .before .before .before .loop-test .taken) (c .before .before .before .longest-at .ensures) (c .before .if1 .left))
+add-at c = let s = c .before .before .before .before .before .loop .inv in omega (arith, s .ready .few, taking-fits _ _ _ _ _ _ _ _ _ s _ _ (c .before .before .before .before .loop-test .taken) (c .before .before .before .next-match .ensures) (c .before .if1 .left))
 
 loop-less : tie.Need-loop-less Inv-loop μ-loop
-loop-less c = omega (arith, c .before .before .before .before .loop-test .taken, taking-less _ _ _ _ _ _ _ _ _ (c .before .before .before .before .before .loop .inv) _ _ (c .before .before .before .before .loop-test .taken) (c .before .before .before .longest-at .ensures) (c .before .if1 .left))
+loop-less c = omega (arith, c .before .before .before .before .loop-test .taken, taking-less _ _ _ _ _ _ _ _ _ (c .before .before .before .before .before .loop .inv) _ _ (c .before .before .before .before .loop-test .taken) (c .before .before .before .next-match .ensures) (c .before .if1 .left))
 
 loop-again : tie.Need-loop-again Inv-loop μ-loop
-loop-again c = taking-more _ _ _ _ _ _ _ _ _ (c .before .before .before .before .before .loop .inv) _ _ (c .before .before .before .before .loop-test .taken) (c .before .before .before .longest-at .ensures) (c .before .if1 .left)
+loop-again c = taking-more _ _ _ _ _ _ _ _ _ (c .before .before .before .before .before .loop .inv) _ _ (c .before .before .before .before .loop-test .taken) (c .before .before .before .next-match .ensures) (c .before .if1 .left)
 
 same-length-2 : tie.Need-same-length-2 Inv-loop μ-loop
 same-length-2 c = c .before .loop .inv .written .size
@@ -56,7 +56,7 @@ encode-greedy-core-spec =
     Inv-loop
     μ-loop
     loop-holds
-    longest-at-requires
+    next-match-requires
     same-length
     returns
     mul-out

@@ -12,8 +12,8 @@ use Rattle.theory.specs.Table.{lastCode}
 use Rattle.theory.specs.Tree.{aboveIn, sizeBelow, childrenBelow, numberIn, number, end, parentOf}
 use Rattle.theory.proofs.Lists.{lt-or-ge, bool-cases, ltb-lt, ltb-ge}
 use Rattle.built.specs.Built.{dictionaryOf}
-use Rattle.prefix_table.specs.Tables.{RowReady}
-use Rattle.prefix_table.proofs.Sizes.{row-some, read-size}
+use Rattle.end_code.specs.Tables.{RowReady}
+use Rattle.end_code.proofs.Sizes.{row-some, read-size}
 use Rattle.interval_prepare.specs.Steps.{parentIn, RowTable, ParentReady}
 
 module _ (file places : List ℕ) (n m : ℕ) (codes : List ℕ) (R : RowTable file places n m codes) where

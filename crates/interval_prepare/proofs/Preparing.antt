@@ -16,7 +16,7 @@ use Rattle.theory.proofs.Interval.{treeNumber-is, treeEnd-is, depth-root, depth
 use Rattle.tables.proofs.Sweeps.{each-all}
 use Rattle.built.specs.Built.{dictionaryOf, Built}
 use Rattle.built.proofs.Rows.{lawful-is}
-use Rattle.prefix_table.specs.Tables.{RowsTo}
+use Rattle.end_code.specs.Tables.{RowsTo}
 use Rattle.prefix_table.specs.LastCodes.{PrefixesReady, PrefixesAre}
 use Rattle.interval_prepare.specs.Steps.{parentIn, RowTable, SizesReady, SizesAre, TreeReady, TreeIs}
 use Rattle.interval_prepare.specs.Tables.{Prepared, codesInForm, treeInForm, intervalInForm}

@@ -15,7 +15,7 @@ use Rattle.tables.specs.InForm.{formOf}
 use Rattle.answers.specs.Answers.{answered}
 use Rattle.answers.specs.Refusals.{when, isOut, over, shorter}
 use Rattle.built.specs.Built.{Built}
-use Rattle.prefix_table.specs.Tables.{PartsInForm}
+use Rattle.end_code.specs.Tables.{PartsInForm}
 use Rattle.interval_prepare.specs.Steps.{WrittenTo}
 use Rattle.interval_prepare.specs.Tables.{Prepared, intervalInForm}
 

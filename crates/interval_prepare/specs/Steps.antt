@@ -6,7 +6,7 @@ use lib.ListN.{length, getD, set, drop}
 use Rattle.theory.specs.Tree.{size, number, end}
 use Rattle.tables.specs.Ready.{PlacesReady}
 use Rattle.built.specs.Built.{dictionaryOf}
-use Rattle.prefix_table.specs.Tables.{FrontRows}
+use Rattle.end_code.specs.Tables.{FrontRows}
 
 -- a prefix's parent is the prefix without its last code, which stands in the table
 unfoldable pub parentIn : List ℕ → List ℕ → ℕ → ℕ

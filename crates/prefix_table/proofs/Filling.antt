@@ -2,6 +2,7 @@
 use mathlib.Core.Path.{_≡_, refl, sym, ap₂, _∙_}
 use mathlib.Core.Logic.{⊎-elim}
 use mathlib.Core.List.{List, _++_}
+use mathlib.Core.Bool.{true}
 use Prim.Native.Nat.{ℕ, suc, _+_, _-_, _≤_, _<_}
 use native.Mathlib.Nat.{eq-or-lt-of-le}
 use native.Mathlib.Numerals.{add-one}
@@ -10,34 +11,33 @@ use lib.ListN.{length, length-set, getD, set, take, drop, take-append-drop}
 use lib.Seq.{length-take-le, getD-take, getD-set-same, getD-set-other, drop-set-lt, drop-cons, ext-getD}
 use Rattle.theory.specs.Table.{lastCode, lastCodes}
 use Rattle.theory.proofs.Lists.{cons-tail}
-use Rattle.theory.proofs.Table.{length-lastCodes, getD-lastCodes}
+use Rattle.theory.proofs.Table.{length-lastCodes, getD-lastCodes, codeAt-lastCode}
 use Rattle.built.specs.Built.{dictionaryOf, Built}
-use Rattle.prefix_table.specs.Tables.{RowsTo}
-use Rattle.prefix_table.specs.LastCodes.{LastCodesTo, LastReady, LastIs, PrefixesReady, PrefixesAre}
+use Rattle.end_code.specs.Tables.{RowsTo}
+use Rattle.end_code.specs.Codes.{CodeReady, CodeIs}
+use Rattle.prefix_table.specs.LastCodes.{LastCodesTo, PrefixesReady, PrefixesAre}
 
 module _ (file places lefts rights area : List ℕ) (n : ℕ) (text table₀ : List ℕ) where
   -- the first i entries are written
-  pub record Filling (i : ℕ) (table found : List ℕ) : Type 0 where
+  pub record Filling (i : ℕ) (table : List ℕ) : Type 0 where
     pub ready : PrefixesReady file places lefts rights area n text table₀
     pub within : i ≤ length text
-    pub found-size : 64 ≡ length found
     pub same-length : length table ≡ length table₀
     pub beyond : drop i table ≡ drop i table₀
     pub rows : RowsTo n table i
     pub built : (prefixes : List ℕ) → Built file places lefts rights prefixes area n → LastCodesTo file text table i
 
-  pub filling-start : (found : List ℕ) → 64 ≡ length found → PrefixesReady file places lefts rights area n text table₀ → Filling 0 table₀ found
-  filling-start found size R = record {
+  pub filling-start : PrefixesReady file places lefts rights area n text table₀ → Filling 0 table₀
+  filling-start R = record {
     ready = R;
     within = omega arith;
-    found-size = size;
     same-length = refl;
     beyond = refl;
     rows = λ j h. absurd (omega arith);
     built = λ prefixes B j h. absurd (omega arith);
   }
 
-  module _ (i : ℕ) (table found : List ℕ) (F : Filling i table found) where
+  module _ (i : ℕ) (table : List ℕ) (F : Filling i table) where
     room : length text ≤ length table
     room = omega (arith, F .same-length, F .ready .room)
 
@@ -60,15 +60,14 @@ module _ (file places lefts rights area : List ℕ) (n : ℕ) (text table₀ : L
         }
 
     module _ (h : i < length text) where
-      pub filling-ready : LastReady file places lefts rights area n text i table found
+      pub filling-ready : CodeReady file places lefts rights area n text i table
       filling-ready = record {
         in-form = F .ready .in-form;
         inside = h;
         before = record { room = omega (arith, room); rows = F .rows };
-        found-room = omega (arith, F .found-size);
       }
 
-      module _ (found' : List ℕ) (r : ℕ) (L : LastIs file places lefts rights area n text i table found found' r) where
+      module _ (r : ℕ) (C : CodeIs file places lefts rights area true n text i table r) where
         -- entry i, and those before it as they were
         at-last : (P : ℕ → ℕ → Type 0) → ((j : ℕ) → j < i → P j (getD table j 0)) → P i r → (j : ℕ) → j < i + 1 → P j (getD (set table i r) j 0)
         at-last P below here j l = ⊎-elim
@@ -76,16 +75,16 @@ module _ (file places lefts rights area : List ℕ) (n : ℕ) (text table₀ : L
             (λ m. rw (getD-set-other table i j r 0 (λ z. absurd (omega arith))) (below j (omega arith)))
             (eq-or-lt-of-le l)
 
-        pub filling-more : Filling (i + 1) (set table i r) found'
+        pub filling-more : Filling (i + 1) (set table i r)
         filling-more = record {
           ready = F .ready;
           within = omega arith;
-          found-size = F .found-size ∙ sym (L .found-length);
           same-length = length-set table i r ∙ F .same-length;
           beyond =
               rw add-one
               (drop-set-lt (suc i) table i r (omega arith)
               ∙ cons-tail (sym (drop-cons table i 0 (omega (arith, room))) ∙ F .beyond ∙ drop-cons table₀ i 0 (omega (arith, F .ready .room))));
-          rows = at-last (λ j c. c < n) (F .rows) (L .row);
-          built = λ prefixes B. at-last (λ j c. c ≡ lastCode (dictionaryOf file) (take (suc j) text)) (F .built prefixes B) (L .built prefixes B (F .built prefixes B));
+          rows = at-last (λ j c. c < n) (F .rows) (C .row);
+          built = λ prefixes B. at-last (λ j c. c ≡ lastCode (dictionaryOf file) (take (suc j) text)) (F .built prefixes B)
+              (C .built prefixes B (λ j l. F .built prefixes B j l ∙ sym (codeAt-lastCode (dictionaryOf file) text j)) ∙ codeAt-lastCode (dictionaryOf file) text i);
         }

@@ -13,10 +13,10 @@ use Rattle.theory.specs.Table.{walkBack}
 use Rattle.theory.proofs.Table.{walkBack-codes}
 use Rattle.built.specs.Built.{dictionaryOf, Built}
 use Rattle.built.proofs.Rows.{lawful-is, known}
-use Rattle.prefix_table.specs.Tables.{RowReady, RowsTo}
+use Rattle.end_code.specs.Tables.{RowReady, RowsTo}
 use Rattle.prefix_table.specs.LastCodes.{LastCodesTo}
 use Rattle.prefix_table.specs.Walk.{walked, WalkReady, WriteReady}
-use Rattle.prefix_table.proofs.Sizes.{any-default, row-some}
+use Rattle.end_code.proofs.Sizes.{any-default, row-some}
 
 module _ (file places : List ℕ) (n : ℕ) (table : List ℕ) (m : ℕ) (R : WalkReady file places n table m) where
   abbrev D : Dictionary

@@ -7,7 +7,7 @@ use Rattle.theory.specs.Merge.{encode}
 use Rattle.theory.specs.Table.{walkBack}
 use Rattle.tables.specs.Ready.{PlacesReady}
 use Rattle.built.specs.Built.{dictionaryOf, Built}
-use Rattle.prefix_table.specs.Tables.{RowsTo, FrontRows, PartsInForm}
+use Rattle.end_code.specs.Tables.{RowsTo, FrontRows, PartsInForm}
 
 -- the codes of the first m bytes, walked from the end
 unfoldable pub walked : List ℕ → List ℕ → ℕ → List ℕ

@@ -4,8 +4,8 @@ ghost use mathlib.Core.List.{_++_};
 ghost use Prim.Native.Nat.{_-_};
 ghost use lib.ListN.{length, drop};
 ghost use Rattle.built.specs.Built.{dictionaryOf};
-ghost use Rattle.prefix_table.specs.Tables.{RowReady};
-ghost use Rattle.prefix_table.specs.LastCodes.{FollowsReady, FollowsIs, FirstReady, FirstIs, LastReady, LastIs, PrefixesReady, PrefixesAre};
+ghost use Rattle.end_code.specs.Tables.{RowReady};
+ghost use Rattle.prefix_table.specs.LastCodes.{PrefixesReady, PrefixesAre};
 ghost use Rattle.prefix_table.specs.Walk.{walked, WalkReady, WriteReady, TableReady, TableCodes};
 
 // The number of bytes of a row.
@@ -14,77 +14,6 @@ fn token_len(file: &[u8], places: &[u32], n: usize, code: u32) -> usize
     ensures { λ r. ⌜ r ≡ length (dictionaryOf (now (file .entry)) .bytes code) ⌝ }
 {
     placed_rows::length_of(file, places, n, placed_rows::wide(code))
-}
-
-// Whether a row that ends the first i + 1 bytes reaches the first byte, or passes with the last code before it.
-fn follows(
-    file: &[u8],
-    places: &[u32],
-    lefts: &[u32],
-    rights: &[u32],
-    area: &[u32],
-    n: usize,
-    table: &[u32],
-    i: usize,
-    code: u32,
-) -> bool
-    requires { ⌜ FollowsReady (now file) (now places) (now lefts) (now rights) (now area) n (now table) i code ⌝ }
-    ensures { λ r. ⌜ FollowsIs (now (file .entry)) (now (places .entry)) (now (lefts .entry)) (now (rights .entry)) (now (area .entry)) n (now (table .entry)) i code r ⌝ }
-{
-    let len = token_len(file, places, n, code);
-    if i < len {
-        return len == i + 1;
-    }
-    let before = table[i - len];
-    token_pair::is_valid_pair_below(file, places, lefts, rights, area, n, n as u32, before, code)
-}
-
-// The last of the first m rows found that follows the last code before it, or 0.
-fn last_that_follows(
-    file: &[u8],
-    places: &[u32],
-    lefts: &[u32],
-    rights: &[u32],
-    area: &[u32],
-    n: usize,
-    table: &[u32],
-    i: usize,
-    found: &[u32],
-    m: usize,
-) -> u32
-    requires { ⌜ FirstReady (now file) (now places) (now lefts) (now rights) (now area) n (now table) i (now found) m ⌝ }
-    ensures { λ r. ⌜ FirstIs (now (file .entry)) (now (places .entry)) (now (lefts .entry)) (now (rights .entry)) (now (area .entry)) n (now (table .entry)) i (now (found .entry)) m r ⌝ }
-{
-    let mut k = m;
-    while 0 < k {
-        k -= 1;
-        let code = found[k];
-        if follows(file, places, lefts, rights, area, n, table, i, code) {
-            return code;
-        }
-    }
-    0
-}
-
-// The last code of the first i + 1 bytes, where the table has those of all shorter prefixes. The rows that end them are tried longest first.
-pub fn last_code_at(
-    file: &[u8],
-    places: &[u32],
-    lefts: &[u32],
-    rights: &[u32],
-    area: &[u32],
-    n: usize,
-    text: &[u8],
-    i: usize,
-    table: &[u32],
-    found: &mut [u32],
-) -> u32
-    requires { ⌜ LastReady (now file) (now places) (now lefts) (now rights) (now area) n (now text) i (now table) (now found) ⌝ }
-    ensures { λ r. ⌜ LastIs (now (file .entry)) (now (places .entry)) (now (lefts .entry)) (now (rights .entry)) (now (area .entry)) n (now (text .entry)) i (now (table .entry)) (now (found .entry)) (now (found .exit)) r ⌝ }
-{
-    let end = i + 1;
-    let m = search_area::ends_at(file, places, n, area, &text[..end], found);
-    last_that_follows(file, places, lefts, rights, area, n, table, i, found, m)
 }
 
 // The last code of each prefix of the text, at the front of the table.
@@ -101,10 +30,9 @@ pub fn encode_all_prefixes(
     requires { ⌜ PrefixesReady (now file) (now places) (now lefts) (now rights) (now area) n (now text) (now table) ⌝ }
     ensures { λ r. ⌜ PrefixesAre (now (file .entry)) (now (places .entry)) (now (lefts .entry)) (now (rights .entry)) (now (area .entry)) n (now (text .entry)) (now (table .entry)) (now (table .exit)) ⌝ }
 {
-    let mut found = [0u32; 64];
     let mut i = 0;
     while i < text.len() {
-        let code = last_code_at(
+        let code = end_code::end_code_at(
             file,
             places,
             lefts,
@@ -114,7 +42,7 @@ pub fn encode_all_prefixes(
             text,
             i,
             table,
-            &mut found,
+            true,
         );
         table[i] = code;
         i += 1;

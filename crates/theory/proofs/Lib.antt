@@ -37,3 +37,5 @@ pub mod Interval
 -- What the demands say, and document 01's samples
 pub mod Demands
 pub mod Samples
+pub mod FirstJoin
+pub mod Spine

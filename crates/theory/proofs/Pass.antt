@@ -72,7 +72,41 @@ module _ (p : ℕ) (meets : ℕ → ℕ → Bool) where
       go true h f g = rw (pass-hit x y t h, pass-hit x y (t ++ B) h) (ap {B = List ℕ} (λ l. p ∷ l) (f (rw (pass-hit x y t h) at e)))
       go false h f g = rw (pass-miss x y t h, pass-miss x y (t ++ B) h) (ap {B = List ℕ} (λ l. x ∷ l) (g (rw (last-pass p x y t) (rw (pass-miss x y t h) at e))))
 
+  -- the pass joins the last of a list and one more
+  pub record JoinLast (A : List ℕ) (s : ℕ) : Type 0 where
+    pub front : List ℕ
+    pub last : ℕ
+    pub before : pass p meets A ≡ front ++ last ∷ []
+    pub meet-last : meets last s ≡ true
+    pub after : pass p meets (A ++ s ∷ []) ≡ front ++ p ∷ []
+
   module _ (apart : (y : ℕ) → meets p y ≡ false) where
+    -- L2, the second: where the seam meets the two are joined
+    pub join-last : (A : List ℕ) (s : ℕ) → seam (pass p meets A) (s ∷ []) ≡ true → JoinLast A s
+    join-last [] s e = absurd (true-false (sym e ∙ apart s))
+    join-last (x ∷ []) s e = record { front = []; last = x; before = refl; meet-last = e; after = pass-hit x s [] e }
+    join-last (x ∷ y ∷ t) s e = go (meets x y) refl (join-last t s) (join-last (y ∷ t) s)
+      where
+        go : (b : Bool) → meets x y ≡ b → (seam (pass p meets t) (s ∷ []) ≡ true → JoinLast t s) → (seam (pass p meets (y ∷ t)) (s ∷ []) ≡ true → JoinLast (y ∷ t) s) → JoinLast (x ∷ y ∷ t) s
+        go true h f g =
+            let q = f (rw (pass-hit x y t h) at e) in
+            record {
+              front = p ∷ q .front;
+              last = q .last;
+              before = pass-hit x y t h ∙ ap {B = List ℕ} (λ l. p ∷ l) (q .before);
+              meet-last = q .meet-last;
+              after = pass-hit x y (t ++ s ∷ []) h ∙ ap {B = List ℕ} (λ l. p ∷ l) (q .after);
+            }
+        go false h f g =
+            let q = g (rw (last-pass p x y t) (rw (pass-miss x y t h) at e)) in
+            record {
+              front = x ∷ q .front;
+              last = q .last;
+              before = pass-miss x y t h ∙ ap {B = List ℕ} (λ l. x ∷ l) (q .before);
+              meet-last = q .meet-last;
+              after = pass-miss x y (t ++ s ∷ []) h ∙ ap {B = List ℕ} (λ l. x ∷ l) (q .after);
+            }
+
     -- L2, the third: where the seam meets there is no split
     pub no-cross : (A B : List ℕ) → pass p meets (A ++ B) ≡ pass p meets A ++ pass p meets B → seam (pass p meets A) B ≡ false
     no-cross [] [] e = refl

@@ -22,7 +22,7 @@ abbrev pub withCode : Side → List ℕ → ℕ → List ℕ
 withCode append X c = X ++ c ∷ []
 withCode prepend X c = c ∷ X
 
-endCode-with : (side : Side) (X : List ℕ) (c : ℕ) → endCode side (withCode side X c) ≡ c
+pub endCode-with : (side : Side) (X : List ℕ) (c : ℕ) → endCode side (withCode side X c) ≡ c
 endCode-with append X c = lastOr-append none none X (c ∷ []) (λ e. nil-cons (sym e))
 endCode-with prepend X c = refl
 
@@ -31,12 +31,12 @@ length-with append X c = omega (arith, length-append X (c ∷ []))
 length-with prepend X c = refl
 
 -- a list that has a code has one there
-with-view : (side : Side) (X : List ℕ) → (X ≡ []) ⊎ ((Y : List ℕ) × (c : ℕ) × (X ≡ withCode side Y c))
+pub with-view : (side : Side) (X : List ℕ) → (X ≡ []) ⊎ ((Y : List ℕ) × (c : ℕ) × (X ≡ withCode side Y c))
 with-view append X = snoc-view X
 with-view prepend [] = inl refl
 with-view prepend (c ∷ Y) = inr (Y, c, refl)
 
-inOrder-twice : (side : Side) (s : List ℕ) → inOrder side (inOrder side s) ≡ s
+pub inOrder-twice : (side : Side) (s : List ℕ) → inOrder side (inOrder side s) ≡ s
 inOrder-twice append s = refl
 inOrder-twice prepend s = reverse-reverse s
 
@@ -102,7 +102,7 @@ module _ (D : Dictionary) where
 
   module _ (A : Lawful D) where
     -- a row has one byte or more
-    empty-text : (t : List ℕ) → encode D t ≡ [] → t ≡ []
+    pub empty-text : (t : List ℕ) → encode D t ≡ [] → t ≡ []
     empty-text t e = sym (encode-spells D A t) ∙ ap (spell D) e
 
     parts-with : (side : Side) (t Y : List ℕ) (c : ℕ) → encode D t ≡ withCode side Y c → encode D (spell D Y) ≡ Y

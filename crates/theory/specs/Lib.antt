@@ -11,3 +11,4 @@ pub mod Shortest
 pub mod Typing
 pub mod Tree
 pub mod Samples
+pub mod FirstJoin

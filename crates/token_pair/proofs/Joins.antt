@@ -1,5 +1,6 @@
 -- Whether two rows are the parts of a row: what the join of the two says, and what the marks of pairs say. Assumes nothing.
 use mathlib.Core.Path.{_≡_, refl, sym, ap, ap₂, _∙_}
+use mathlib.Core.Logic.{inl, inr}
 use mathlib.Core.List.{List, [], _++_}
 use mathlib.Core.Bool.{Bool, true, false}
 use Prim.Native.Nat.{ℕ, _≤_, _<_}
@@ -10,9 +11,9 @@ use borrow.Author.Tests.{lt-ltb, le-ltb, eq-eqb, ltb-true}
 use Rattle.theory.specs.Dictionary.{Dictionary}
 use Rattle.theory.specs.Paper.{listed}
 use Rattle.theory.specs.PairCheck.{listedBelow}
-use Rattle.theory.proofs.Lists.{true-false, bool-cases}
+use Rattle.theory.proofs.Lists.{true-false}
 use Rattle.theory.proofs.Stage.{listed-is}
-use Rattle.theory.proofs.PairSteps.{listed-one, listed-none}
+use Rattle.theory.proofs.PairSteps.{listed-none}
 use Rattle.phrase_file.specs.Form.{rows}
 use Rattle.placed_rows.specs.Rows.{none, row}
 use Rattle.search_area.specs.Area.{Finds}
@@ -61,7 +62,7 @@ module _ (file places lefts rights area : List ℕ) (n q x y : ℕ) (R : PairRea
     few : q ≤ n
     few = R .few
 
-    hit : w < m → getD lefts w 0 ≡ x → getD rights w 0 ≡ y → listedBelow D m x y ≡ true
+    hit : w < m → getD lefts w 0 ≡ x → getD rights w 0 ≡ y → listed D w x y ≡ true
     hit h l r =
         let P = R .places-ready in
         let g = few in
@@ -70,8 +71,7 @@ module _ (file places lefts rights area : List ℕ) (n q x y : ℕ) (R : PairRea
         let e : getD (rows file) w [] ≡ getD (rows file) x [] ++ getD (rows file) y [] =
         sym (P .rows-are w (omega arith)) ∙ i .1 ∙ ap₂ (λ (a b : List ℕ). a ++ b) (P .rows-are x hx) (P .rows-are y hy) in
         let z : 1 < length (getD (rows file) w []) = omega (arith, ap length e, length-append (getD (rows file) x []) (getD (rows file) y []), P .filled x hx, P .filled y hy) in
-        listed-one D m x y w h
-        (rw (long file lefts rights q D T w (omega arith) z, eq-eqb x (D .left w) (sym l ∙ T .left w (omega arith)), eq-eqb y (D .right w) (sym r ∙ T .right w (omega arith))))
+        rw (long file lefts rights q D T w (omega arith) z, eq-eqb x (D .left w) (sym l ∙ T .left w (omega arith)), eq-eqb y (D .right w) (sym r ∙ T .right w (omega arith)))
 
     -- any listed row is the join
     one-join : (v : ℕ) → v < m → listed D v x y ≡ true → v ≡ w
@@ -97,18 +97,36 @@ module _ (file places lefts rights area : List ℕ) (n q x y : ℕ) (R : PairRea
         let i = one-join v h e in
         no' (rw (← i) h, (rw (← i) (T .left v (omega arith) ∙ sym (s .left)), rw (← i) (T .right v (omega arith) ∙ sym (s .right)))))
 
-    listed-join : listedIn lefts rights w m x y ≡ listedBelow D m x y
-    listed-join = bool-cases (listedIn lefts rights w m x y)
-        (λ e. let f = listed-facts lefts rights w m x y e in e ∙ sym (hit (f .0) (f .1 .0) (f .1 .1)))
-        (λ e. e ∙ sym (miss (not-listed lefts rights w m x y e)))
+    -- of the row that is their join
+    pub listed-join : listedIn lefts rights w m x y ≡ true → listed D w x y ≡ true
+    listed-join e = let f = listed-facts lefts rights w m x y e in hit (f .0) (f .1 .0) (f .1 .1)
+
+    pub unlisted-join : listedIn lefts rights w m x y ≡ false → listedBelow D m x y ≡ false
+    unlisted-join e = miss (not-listed lefts rights w m x y e)
 
 module _ (file places lefts rights area : List ℕ) (n m x y : ℕ) where
-  -- the join was looked up
-  pub joins-listed : (w : ℕ) (r : Bool) → Found file places n area (row file places n x ++ row file places n y) w → r ≡ listedIn lefts rights w m x y → JoinIs file places lefts rights area n m x y r
-  joins-listed w r J e = record { listed-is = λ q h R D T d F M. e ∙ listed-join file places lefts rights area n q x y R D T w m h d F J }
+  -- the join was looked up, and is listed with the two
+  pub joins-listed : (w : ℕ) (b : Bool) → Found file places n area (row file places n x ++ row file places n y) w → b ≡ listedIn lefts rights w m x y → b ≡ true → JoinIs file places lefts rights area n m x y w
+  joins-listed w b J e t =
+      let f = listed-facts lefts rights w m x y (sym e ∙ t) in
+      record {
+        bound = inr (f .0);
+        nothing = λ z q h R D T d F M. absurd (let c = R .places-ready .placed .few in let k = R .few in let l = f .0 in omega arith);
+        is = λ _ q h R D T d F. listed-join file places lefts rights area n q x y R D T w m h d F J (sym e ∙ t);
+      }
+
+  -- it is not
+  pub joins-other : (w : ℕ) (b : Bool) → Found file places n area (row file places n x ++ row file places n y) w → b ≡ listedIn lefts rights w m x y → b ≡ false → JoinIs file places lefts rights area n m x y none
+  joins-other w b J e t = record {
+    bound = inl refl;
+    nothing = λ _ q h R D T d F M. unlisted-join file places lefts rights area n q x y R D T w m h d F J (sym e ∙ t);
+    is = λ z. absurd (z refl);
+  }
 
   -- the two are not marked
-  pub joins-unmarked : (k : ℕ) (b : Bool) → k ≡ pairKey x y → b ≡ marked area 15360 k → b ≡ false → JoinIs file places lefts rights area n m x y false
+  pub joins-unmarked : (k : ℕ) (b : Bool) → k ≡ pairKey x y → b ≡ marked area 15360 k → b ≡ false → JoinIs file places lefts rights area n m x y none
   joins-unmarked k b z f e = record {
-    listed-is = λ q h R D T d F M. sym (unmarked file places lefts rights area n q x y R D T m h M (ap (marked area 15360) (sym z) ∙ sym f ∙ e));
+    bound = inl refl;
+    nothing = λ _ q h R D T d F M. unmarked file places lefts rights area n q x y R D T m h M (ap (marked area 15360) (sym z) ∙ sym f ∙ e);
+    is = λ z. absurd (z refl);
   }

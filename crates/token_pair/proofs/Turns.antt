@@ -2,7 +2,7 @@
 use mathlib.Core.Path.{_≡_, refl, sym, _∙_}
 use mathlib.Core.Logic.{_⊎_, inl, inr, ⊎-elim}
 use mathlib.Core.List.{List, []}
-use mathlib.Core.Bool.{Bool, true, false}
+use mathlib.Core.Bool.{true, false}
 use Prim.Native.Nat.{ℕ, _+_, _≤_, _<_}
 use native.Mathlib.Decide.{ℕ-discrete}
 use native.Mathlib.Numerals.{add-one}
@@ -10,9 +10,10 @@ use native.Mathlib.Omega.{arith}
 use lib.ListN.{length, getD}
 use Rattle.theory.specs.Dictionary.{Dictionary}
 use Rattle.theory.specs.PairCheck.{listedBelow, passes}
-use Rattle.theory.proofs.PairSteps.{Falling, checks, check-fails, check-ends, check-left, check-right}
+use Rattle.theory.proofs.PairSteps.{listed-one, Falling, checks, check-fails, check-ends, check-left, check-right}
 use Rattle.phrase_file.specs.Form.{rows}
-use Rattle.tables.specs.Ready.{PlacesReady, PartsReady, Lower}
+use Rattle.tables.specs.Ready.{PlacesReady, PartsReady}
+use Rattle.placed_rows.specs.Rows.{none}
 use Rattle.search_area.specs.Area.{Finds}
 use Rattle.token_pair.specs.Pair.{Distinct, Tells, PairsMarked, PairReady, JoinReady, JoinIs, PairIs}
 use Rattle.token_pair.proofs.Joins as Joins
@@ -109,20 +110,22 @@ module _ (file places lefts rights area : List ℕ) (n q u v x y m : ℕ) (W : W
     right-below = W .right-below;
   }
 
-module _ (file places lefts rights area : List ℕ) (n q u v x y m : ℕ) (b : Bool) (W : Walking file places lefts rights area n q u v x y m)
+module _ (file places lefts rights area : List ℕ) (n q u v x y m b : ℕ) (W : Walking file places lefts rights area n q u v x y m)
     (J : JoinIs file places lefts rights area n m x y b) where
-  -- whether x and y are listed below m
-  is : (D : Dictionary) → Tells D file lefts rights q → Distinct file → Finds file places n area → PairsMarked lefts rights area q → b ≡ listedBelow D m x y
-  is = J .listed-is q (W .bound-below) (here file places lefts rights area n q u v x y m W)
+  some : (b ≡ none → ⊥) → (D : Dictionary) → Tells D file lefts rights q → Distinct file → Finds file places n area → listedBelow D m x y ≡ true
+  some z D T d F = listed-one D m x y b (⊎-elim (λ e. absurd (z e)) (λ h. h) (J .bound)) (J .is z q (W .bound-below) (here file places lefts rights area n q u v x y m W) D T d F)
 
-  pub walk-fails : b ≡ true → PairIs file places lefts rights area n q u v false
+  pub walk-fails : (b ≡ none → ⊥) → PairIs file places lefts rights area n q u v false
   walk-fails l = record {
     passes-is = λ D T d F M.
-        sym (fails file places lefts rights n q (W .ready .places-ready) (W .ready .parts-ready) (W .ready .few) D T x y m (W .left-below) (W .right-below) (sym (is D T d F M) ∙ l))
+        sym (fails file places lefts rights n q (W .ready .places-ready) (W .ready .parts-ready) (W .ready .few) D T x y m (W .left-below) (W .right-below) (some l D T d F))
         ∙ W .same D T d F M;
   }
 
-  module _ (l : b ≡ false) where
+  module _ (l : b ≡ none) where
+    clear : (D : Dictionary) → Tells D file lefts rights q → Distinct file → Finds file places n area → PairsMarked lefts rights area q → listedBelow D m x y ≡ false
+    clear = J .nothing l q (W .bound-below) (here file places lefts rights area n q u v x y m W)
+
     pub walk-ends : (p r : ℕ) → p ≡ getD rights x 0 → p ≡ x → r ≡ getD lefts y 0 → r ≡ y → PairIs file places lefts rights area n q u v true
     walk-ends p r ep dp er dr =
         let P = W .ready .places-ready in
@@ -130,7 +133,7 @@ module _ (file places lefts rights area : List ℕ) (n q u v x y m : ℕ) (b : B
         let f = W .ready .few in
         record {
           passes-is = λ D T d F M.
-              sym (ends file places lefts rights n q P S f D T x y m (W .left-below) (W .right-below) (sym (is D T d F M) ∙ l)
+              sym (ends file places lefts rights n q P S f D T x y m (W .left-below) (W .right-below) (clear D T d F M)
               (right-single file places lefts rights n q P S f x p (W .left-below) ep dp) (left-single file places lefts rights n q P S f y r (W .right-below) er dr))
               ∙ W .same D T d F M;
         }
@@ -152,7 +155,7 @@ module _ (file places lefts rights area : List ℕ) (n q u v x y m : ℕ) (b : B
             right-below = W .right-below;
             bound-below = omega arith;
             same = λ D T d F M.
-                sym (undo-left file places lefts rights n q P S f D T x y m (W .left-below) (W .right-below) (sym (is D T d F M) ∙ l) p ep a
+                sym (undo-left file places lefts rights n q P S f D T x y m (W .left-below) (W .right-below) (clear D T d F M) p ep a
                 (λ z. ⊎-elim (λ h. h) (λ e. absurd (let s = left-single file places lefts rights n q P S f y r (W .right-below) er e in omega arith)) o))
                 ∙ W .same D T d F M;
           },
@@ -174,7 +177,7 @@ module _ (file places lefts rights area : List ℕ) (n q u v x y m : ℕ) (b : B
             right-below = omega arith;
             bound-below = omega arith;
             same = λ D T d F M.
-                sym (undo-right file places lefts rights n q P S f D T x y m (W .left-below) (W .right-below) (sym (is D T d F M) ∙ l) r er a
+                sym (undo-right file places lefts rights n q P S f D T x y m (W .left-below) (W .right-below) (clear D T d F M) r er a
                 (λ z. ⊎-elim (λ h. h) (λ e. absurd (let s = right-single file places lefts rights n q P S f x p (W .left-below) ep e in omega arith)) o))
                 ∙ W .same D T d F M;
           },

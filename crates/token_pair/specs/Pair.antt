@@ -1,14 +1,16 @@
 -- The pair check over tables: what it may read, and what the tables must say for its answer to be the definition's. Assumes nothing.
 use mathlib.Core.Path.{_≡_}
 use mathlib.Core.List.{List, [], _++_}
-use mathlib.Core.Bool.{Bool, true, _&&_}
+use mathlib.Core.Logic.{_⊎_}
+use mathlib.Core.Bool.{Bool, true, false, _&&_}
 use Prim.Native.Nat.{ℕ, _+_, _*_, _/_, _%_, _≤_, _<_}
 use lib.ListN.{length, getD}
 use lib.Dec.{ltb, eqb}
 use Rattle.theory.specs.Dictionary.{Dictionary}
+use Rattle.theory.specs.Paper.{listed}
 use Rattle.theory.specs.PairCheck.{listedBelow, passes}
 use Rattle.phrase_file.specs.Form.{rows}
-use Rattle.placed_rows.specs.Rows.{Placed}
+use Rattle.placed_rows.specs.Rows.{none, Placed}
 use Rattle.tables.specs.Ready.{PlacesReady, PartsReady}
 use Rattle.search_area.specs.Area.{Finds}
 use Rattle.marks.specs.Marks.{marked}
@@ -55,9 +57,13 @@ pub record JoinReady (file places lefts rights area : List ℕ) (n m u v : ℕ) 
   pub left-below : u < n
   pub right-below : v < n
 
--- the answer is whether a row below m has u and v as its parts
-pub record JoinIs (file places lefts rights area : List ℕ) (n m u v : ℕ) (r : Bool) : Type 0 where
-  pub listed-is : (q : ℕ) → m ≤ q → PairReady file places lefts rights area n q u v → (D : Dictionary) → Tells D file lefts rights q → Distinct file → Finds file places n area → PairsMarked lefts rights area q → r ≡ listedBelow D m u v
+-- r is the row below m that has u and v as its parts, or none
+pub record JoinIs (file places lefts rights area : List ℕ) (n m u v r : ℕ) : Type 0 where
+  pub bound : (r ≡ none) ⊎ (r < m)
+  pub nothing : r ≡ none → (q : ℕ) → m ≤ q → PairReady file places lefts rights area n q u v → (D : Dictionary) → Tells D file lefts rights q → Distinct file → Finds file places n area → PairsMarked lefts rights area q
+      → listedBelow D m u v ≡ false
+  pub is : (r ≡ none → ⊥) → (q : ℕ) → m ≤ q → PairReady file places lefts rights area n q u v → (D : Dictionary) → Tells D file lefts rights q → Distinct file → Finds file places n area
+      → listed D r u v ≡ true
 
 -- the answer is that of the pair check over the rows below q
 pub record PairIs (file places lefts rights area : List ℕ) (n q u v : ℕ) (r : Bool) : Type 0 where

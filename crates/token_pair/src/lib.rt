@@ -3,6 +3,7 @@ ghost use mathlib.Core.Path.{_≡_};
 ghost use Prim.Native.Nat.{_≤_};
 ghost use lib.ListN.{length};
 ghost use Rattle.token_pair.specs.Pair.{pairKey, listedIn, JoinReady, JoinIs, PairReady, PairIs};
+use placed_rows::NONE;
 
 // The number of the search area at which the marks of pairs begin.
 pub const PAIRS: usize = 15360;
@@ -37,8 +38,8 @@ fn is_listed_before(
     rights[i] == right
 }
 
-// Whether a row that comes before the join last undone has the two as its parts. Two that are not marked are the parts of none.
-fn is_joined_before(
+// The row that comes before the join last undone and has the two as its parts, or NONE. Two that are not marked are the parts of none.
+pub fn join_before(
     file: &[u8],
     places: &[u32],
     lefts: &[u32],
@@ -48,15 +49,18 @@ fn is_joined_before(
     bound: u32,
     left: u32,
     right: u32,
-) -> bool
+) -> u32
     requires { ⌜ JoinReady (now file) (now places) (now lefts) (now rights) (now area) n bound left right ⌝ }
     ensures { λ r. ⌜ JoinIs (now (file .entry)) (now (places .entry)) (now (lefts .entry)) (now (rights .entry)) (now (area .entry)) n bound left right r ⌝ }
 {
-    if marks::is_marked(area, PAIRS, pair_key(left, right)) {
-        let combined = search_area::join(file, places, n, area, left, right);
-        return is_listed_before(lefts, rights, combined, bound, left, right);
+    if !marks::is_marked(area, PAIRS, pair_key(left, right)) {
+        return NONE;
     }
-    false
+    let combined = search_area::join(file, places, n, area, left, right);
+    if is_listed_before(lefts, rights, combined, bound, left, right) {
+        return combined;
+    }
+    NONE
 }
 
 // The pair check over the rows below `limit`, for two of them.
@@ -78,7 +82,7 @@ pub fn is_valid_pair_below(
     let mut right = token2;
     let mut bound = limit;
     loop {
-        if is_joined_before(file, places, lefts, rights, area, n, bound, left, right) {
+        if join_before(file, places, lefts, rights, area, n, bound, left, right) != NONE {
             return false;
         }
         // Undo the higher one, or the other where that is a single byte.

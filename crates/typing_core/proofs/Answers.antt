@@ -184,7 +184,7 @@ module _ (file places lefts rights prefixes area : List ℕ) (side : Side) (len 
           pub extend-most : 4096 < len + length typed → ExtendedColumns file places lefts rights prefixes area side len size bytes codes counts typed (Refused (Full len)) bytes' codes' counts'
           extend-most h = refused (C .fine) (C .form) (Full len) (refuse-most form len size (C .fine) typed short right fits h)
 
-          pub extend-done : len + length typed ≤ 4096 → ExtendedBy file places lefts rights prefixes area side n len bytes codes counts typed bytes' codes' counts'
+          pub extend-done : len + length typed ≤ 4096 → ExtendedBy file places lefts rights area side n len bytes codes counts typed bytes' codes' counts'
               → ExtendedColumns file places lefts rights prefixes area side len size bytes codes counts typed (Number (len + length typed)) bytes' codes' counts'
           extend-done h X = record {
             fine = C .fine;
@@ -194,7 +194,7 @@ module _ (file places lefts rights prefixes area : List ℕ) (side : Side) (len 
             built = λ m B z k l.
                 let P = C .passed n refl in
                 let B' = same-build file places lefts rights prefixes area n m (P .tables .places-ready) B in
-                let t = X .built B' (P .codes-are B') (P .counts-are B') in
+                let t = X .built prefixes B' (P .codes-are B') (P .counts-are B') in
                 record { byte = X .bytes-are k l; code = t .0 (len + k) (omega arith); count = t .1 (len + k) (omega arith) };
           }
 
@@ -204,10 +204,10 @@ module _ (file places lefts rights prefixes area : List ℕ) (side : Side) (len 
 
   -- the columns may be extended
   pub extend-ready : (typed reading : List ℕ) (n : ℕ) → Checked file places lefts rights prefixes area side len size bytes codes counts reading (Rows n)
-      → len + length typed ≤ 4096 → length codes ≡ 4096 → length counts ≡ 4096 → ExtendReady file places lefts rights prefixes area n len bytes reading codes counts typed
+      → len + length typed ≤ 4096 → length codes ≡ 4096 → length counts ≡ 4096 → ExtendReady file places lefts rights area n len bytes codes counts typed
   extend-ready typed reading n C h c k =
       let P = C .passed n refl in
-      record { tables = P .tables; room = h; mirrored = P .mirrored; codes-size = c; counts-size = k; rows = P .rows; small = P .small }
+      record { in-form = parts-in-form file places lefts rights prefixes area n (P .tables); room = h; bytes-size = P .mirrored .bytes-size; codes-size = c; counts-size = k; rows = P .rows; small = P .small }
 
   -- `token_count`
   module _ (reading : List ℕ) where

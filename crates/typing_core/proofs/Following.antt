@@ -1,21 +1,17 @@
 -- Whether a row follows the code before it, and the count that goes with it, case by case. Assumes nothing.
 use mathlib.Core.Path.{_≡_, refl, sym, _∙_}
-use mathlib.Core.Logic.{_⊎_, inl, inr, ⊎-elim}
 use mathlib.Core.List.{List}
 use mathlib.Core.Bool.{Bool, true, false, _||_}
 use Prim.Native.Nat.{ℕ, suc, _+_, _-_, _≤_, _<_}
 use native.Mathlib.Omega.{arith}
 use lib.ListN.{length, getD}
-use lib.Dec.{ltb, eqb}
-use borrow.Author.Tests.{lt-ltb, le-ltb, ltb-true, eq-eqb, ne-eqb, eqb-true}
-use Rattle.theory.specs.Dictionary.{Dictionary}
-use Rattle.theory.specs.Typing.{Side, passesBeside}
-use Rattle.theory.proofs.Lists.{and-both}
-use Rattle.theory.proofs.TypingLists.{and-true, or-either, or-true}
+use lib.Dec.{eqb}
+use borrow.Author.Tests.{lt-ltb, le-ltb, ne-eqb}
+use Rattle.theory.specs.Typing.{Side}
 use Rattle.token_pair.specs.Pair.{PairIs}
 use Rattle.built.specs.Built.{dictionaryOf}
 use Rattle.built.proofs.Rows.{pair-is}
-use Rattle.prefix_table.proofs.Sizes.{row-some}
+use Rattle.end_code.proofs.Sizes.{row-some}
 use Rattle.typing_core.specs.declared.Side as Declared
 use Rattle.typing_core.specs.declared.Side.the-variants.{Append, Prepend}
 use Rattle.typing_core.specs.Sides.{sideOf}
@@ -32,22 +28,6 @@ module _ (file places lefts rights area : List ℕ) (s : Declared.Side) (n befor
 or-none : (a b : Bool) → b ≡ false → a ≡ a || b
 or-none true b e = refl
 or-none false b e = sym e
-
--- the test as a fact
-module _ (D : Dictionary) (side : Side) (codes : List ℕ) (i c : ℕ) where
-  abbrev Follows : Type 0
-  Follows = (length (D .bytes c) ≡ suc i) ⊎ ((length (D .bytes c) < suc i) × (passesBeside D side (getD codes (i - length (D .bytes c)) 0) c ≡ true))
-
-  pub to-follows : followsCode D side codes i c ≡ true → Follows
-  unfolding followsCode
-  to-follows e = ⊎-elim
-      (λ f. inl (eqb-true _ _ f))
-      (λ f. let q = and-both (ltb (length (D .bytes c)) (suc i)) _ f in inr (ltb-true _ _ (q .0), q .1))
-      (or-either (eqb (length (D .bytes c)) (suc i)) _ e)
-
-  pub of-follows : Follows → followsCode D side codes i c ≡ true
-  unfolding followsCode
-  of-follows f = or-true (eqb (length (D .bytes c)) (suc i)) _ (⊎-elim (λ e. inl (eq-eqb _ _ e)) (λ e. inr (and-true (lt-ltb _ _ (e .0)) (e .1))) f)
 
 -- the record before a row
 module _ (file places lefts rights area : List ℕ) (n : ℕ) (codes : List ℕ) (i c len : ℕ)

@@ -3,7 +3,6 @@ pub mod Rows
 pub mod Ending
 pub mod Following
 pub mod Recording
-pub mod Chaining
 pub mod Coding
 pub mod Pushing
 pub mod Answers

@@ -11,40 +11,40 @@ use Rattle.theory.specs.Dictionary.{Dictionary}
 use Rattle.theory.specs.Typing.{Side, codeAt, countAt}
 use Rattle.theory.proofs.Lists.{lt-or-ge}
 use Rattle.theory.proofs.Typing.{codeAt-append, codeAt-take, countAt-append, countAt-take}
-use Rattle.tables.specs.Ready.{Ready}
 use Rattle.built.specs.Built.{dictionaryOf, Built}
-use Rattle.prefix_table.specs.Tables.{RowsTo}
-use Rattle.typing_core.specs.Steps.{Mirrored, CountsTo, CodesAre, CountsAre, CountReady, CountIs, CodeReady, CodeIs, PushReady, Pushed, ExtendReady, ExtendedBy}
-use Rattle.typing_core.proofs.Mirror.{mirror-push}
+use Rattle.end_code.specs.Tables.{RowsTo, PartsInForm}
+use Rattle.end_code.specs.Codes.{CodeReady}
+use Rattle.typing_core.specs.Steps.{CountsTo, CodesAre, CountsAre, CountReady, CountIs, CodeIs, PushReady, Pushed, ExtendReady, ExtendedBy}
 
-module _ (file places lefts rights prefixes area : List ℕ) (n i : ℕ) (bytes reading codes counts : List ℕ)
-    (R : PushReady file places lefts rights prefixes area n i bytes reading codes counts) where
-  pub push-code-ready : (byte : ℕ) → CodeReady file places lefts rights prefixes area n (set bytes i byte) (set reading (4095 - i) byte) i codes
-  push-code-ready byte = record { tables = R .tables; mirrored = mirror-push bytes reading i byte (R .place) (R .mirrored); codes-size = R .codes-size; before = R .rows }
+module _ (file places lefts rights area : List ℕ) (n i : ℕ) (bytes codes counts : List ℕ) (R : PushReady file places lefts rights area n i bytes codes counts) where
+  pub push-code-ready : (byte : ℕ) → CodeReady file places lefts rights area n (set bytes i byte) i codes
+  push-code-ready byte = record {
+    in-form = R .in-form;
+    inside = omega (arith, length-set bytes i byte, R .bytes-size, R .place);
+    before = record { room = omega (arith, R .codes-size, R .place); rows = R .rows };
+  }
 
   pub push-count-ready : (code : ℕ) → code < n → CountReady file places n counts i code
   push-count-ready code h = record {
-    places-ready = R .tables .places-ready;
+    places-ready = R .in-form .places-ready;
     place = R .place;
     room = omega (arith, R .counts-size, R .place);
     small = R .small;
     row = h;
   }
 
-  pub push-made : (side : Side) (byte code count : ℕ) → CodeIs file places lefts rights prefixes area side n (set bytes i byte) i codes code → CountIs file counts i code count
-      → Pushed file places lefts rights prefixes area side n i byte bytes reading codes counts
-      (set bytes i byte) (set reading (4095 - i) byte) (set codes i code) (set counts i count)
+  pub push-made : (side : Side) (byte code count : ℕ) → CodeIs file places lefts rights area side n (set bytes i byte) i codes code → CountIs file counts i code count
+      → Pushed file places lefts rights area side n i byte bytes codes counts (set bytes i byte) (set codes i code) (set counts i count)
   push-made side byte code count C K = record {
     code = code;
     count = count;
     row = C .row;
     small = K .small;
     bytes-are = refl;
-    reading-are = refl;
     codes-are = refl;
     counts-are = refl;
     code-is = C .code;
-    count-is = λ B agree small. K .is ∙ C .count B agree counts small;
+    count-is = λ prefixes B agree small. K .is ∙ C .count prefixes B agree counts small;
   }
 
 -- what holds of each entry below i and of the one set holds of each below i + 1
@@ -54,7 +54,7 @@ at-set P l i v m h z below here j k = ⊎-elim
     (λ b. rw (getD-set-other l i j v 0 (λ y. omega arith)) (below j (omega arith)))
     (eq-or-lt-of-le k)
 
-module _ (file places lefts rights prefixes area : List ℕ) (side : Side) (n len : ℕ) (bytes₀ codes₀ counts₀ typed : List ℕ) where
+module _ (file places lefts rights area : List ℕ) (side : Side) (n len : ℕ) (bytes₀ codes₀ counts₀ typed : List ℕ) where
   abbrev D : Dictionary
   D = dictionaryOf file
 
@@ -63,12 +63,12 @@ module _ (file places lefts rights prefixes area : List ℕ) (side : Side) (n le
   s = take len bytes₀ ++ typed
 
   -- k of the bytes are typed
-  pub record Extending (k : ℕ) (bytes reading codes counts : List ℕ) : Type 0 where
-    pub tables : Ready file places lefts rights prefixes area n
+  pub record Extending (k : ℕ) (bytes codes counts : List ℕ) : Type 0 where
+    pub in-form : PartsInForm file places lefts rights area n
     pub room : len + length typed ≤ 4096
     pub start-size : length bytes₀ ≡ 4096
     pub within : k ≤ length typed
-    pub mirrored : Mirrored bytes reading (len + k)
+    pub bytes-size : length bytes ≡ 4096
     pub codes-size : length codes ≡ 4096
     pub counts-size : length counts ≡ 4096
     pub rows : RowsTo n codes (len + k)
@@ -77,19 +77,19 @@ module _ (file places lefts rights prefixes area : List ℕ) (side : Side) (n le
     pub codes-kept : (j : ℕ) → j < len → getD codes j 0 ≡ getD codes₀ j 0
     pub counts-kept : (j : ℕ) → j < len → getD counts j 0 ≡ getD counts₀ j 0
     pub bytes-are : (m : ℕ) → m < k → getD bytes (len + m) 0 ≡ getD typed m 0
-    pub codes-are : Built file places lefts rights prefixes area n → CodesAre file side bytes₀ codes₀ len → CountsAre file side bytes₀ counts₀ len → CodesAre file side s codes (len + k)
-    pub counts-are : Built file places lefts rights prefixes area n → CodesAre file side bytes₀ codes₀ len → CountsAre file side bytes₀ counts₀ len → CountsAre file side s counts (len + k)
+    pub codes-are : (prefixes : List ℕ) → Built file places lefts rights prefixes area n → CodesAre file side bytes₀ codes₀ len → CountsAre file side bytes₀ counts₀ len → CodesAre file side s codes (len + k)
+    pub counts-are : (prefixes : List ℕ) → Built file places lefts rights prefixes area n → CodesAre file side bytes₀ codes₀ len → CountsAre file side bytes₀ counts₀ len → CountsAre file side s counts (len + k)
 
-  pub extending-start : (reading : List ℕ) → ExtendReady file places lefts rights prefixes area n len bytes₀ reading codes₀ counts₀ typed → Extending 0 bytes₀ reading codes₀ counts₀
-  extending-start reading R =
+  pub extending-start : ExtendReady file places lefts rights area n len bytes₀ codes₀ counts₀ typed → Extending 0 bytes₀ codes₀ counts₀
+  extending-start R =
       let z : len + 0 ≡ len = omega arith in
-      let l : length (take len bytes₀) ≡ len = length-take-le len bytes₀ (omega (arith, R .mirrored .bytes-size, R .mirrored .fits)) in
+      let l : length (take len bytes₀) ≡ len = length-take-le len bytes₀ (omega (arith, R .bytes-size, R .room)) in
       record {
-        tables = R .tables;
+        in-form = R .in-form;
         room = R .room;
-        start-size = R .mirrored .bytes-size;
+        start-size = R .bytes-size;
         within = omega arith;
-        mirrored = rw z (R .mirrored);
+        bytes-size = R .bytes-size;
         codes-size = R .codes-size;
         counts-size = R .counts-size;
         rows = λ j h. R .rows j (omega arith);
@@ -98,34 +98,34 @@ module _ (file places lefts rights prefixes area : List ℕ) (side : Side) (n le
         codes-kept = λ j h. refl;
         counts-kept = λ j h. refl;
         bytes-are = λ m h. absurd (omega arith);
-        codes-are = λ B c k j h. c j (omega arith) ∙ sym (codeAt-append D side (take len bytes₀) typed j (omega arith) ∙ codeAt-take D side bytes₀ len j (omega arith));
-        counts-are = λ B c k j h. k j (omega arith) ∙ sym (countAt-append D side (take len bytes₀) typed j (omega arith) ∙ countAt-take D side bytes₀ len j (omega arith));
+        codes-are = λ prefixes B c k j h. c j (omega arith) ∙ sym (codeAt-append D side (take len bytes₀) typed j (omega arith) ∙ codeAt-take D side bytes₀ len j (omega arith));
+        counts-are = λ prefixes B c k j h. k j (omega arith) ∙ sym (countAt-append D side (take len bytes₀) typed j (omega arith) ∙ countAt-take D side bytes₀ len j (omega arith));
       }
 
-  module _ (k : ℕ) (bytes reading codes counts : List ℕ) (E : Extending k bytes reading codes counts) where
-    pub extending-end : length typed ≤ k → ExtendedBy file places lefts rights prefixes area side n len bytes₀ codes₀ counts₀ typed bytes codes counts
+  module _ (k : ℕ) (bytes codes counts : List ℕ) (E : Extending k bytes codes counts) where
+    pub extending-end : length typed ≤ k → ExtendedBy file places lefts rights area side n len bytes₀ codes₀ counts₀ typed bytes codes counts
     extending-end h = record {
       bytes-kept = E .bytes-kept;
       codes-kept = E .codes-kept;
       counts-kept = E .counts-kept;
       bytes-are = λ m l. E .bytes-are m (omega arith);
-      built = λ B c d. (λ j l. E .codes-are B c d j (omega arith), λ j l. E .counts-are B c d j (omega arith));
+      built = λ prefixes B c d. (λ j l. E .codes-are prefixes B c d j (omega arith), λ j l. E .counts-are prefixes B c d j (omega arith));
     }
 
     module _ (h : k < length typed) where
-      pub extending-ready : PushReady file places lefts rights prefixes area n (len + k) bytes reading codes counts
+      pub extending-ready : PushReady file places lefts rights area n (len + k) bytes codes counts
       extending-ready = record {
-        tables = E .tables;
+        in-form = E .in-form;
         place = omega (arith, E .room);
-        mirrored = E .mirrored;
+        bytes-size = E .bytes-size;
         codes-size = E .codes-size;
         counts-size = E .counts-size;
         rows = E .rows;
         small = E .small;
       }
 
-      module _ (bytes' reading' codes' counts' : List ℕ)
-          (P : Pushed file places lefts rights prefixes area side n (len + k) (getD typed k 0) bytes reading codes counts bytes' reading' codes' counts') where
+      module _ (bytes' codes' counts' : List ℕ)
+          (P : Pushed file places lefts rights area side n (len + k) (getD typed k 0) bytes codes counts bytes' codes' counts') where
         abbrev i : ℕ
         i = len + k
 
@@ -140,7 +140,7 @@ module _ (file places lefts rights prefixes area : List ℕ) (side : Side) (n le
 
         -- the first i + 1 bytes are those of the text in the end
         bytes-same : (j : ℕ) → j < suc i → getD (set bytes i byte) j 0 ≡ getD s j 0
-        bytes-same = at-set (λ j b. b ≡ getD s j 0) bytes i byte (suc i) (omega (arith, E .mirrored .bytes-size, i-small)) refl
+        bytes-same = at-set (λ j b. b ≡ getD s j 0) bytes i byte (suc i) (omega (arith, E .bytes-size, i-small)) refl
             (λ j l. ⊎-elim
             (λ m. E .bytes-kept j m ∙ sym (List·getD-append (take len bytes₀) typed 0 j (omega (arith, front)) ∙ getD-take len bytes₀ j 0 m))
             (λ m. let z : j ≡ len + (j - len) = omega arith in ap (λ (x : ℕ). getD bytes x 0) z ∙ E .bytes-are (j - len) (omega arith) ∙ sym (behind (j - len) j z))
@@ -152,7 +152,7 @@ module _ (file places lefts rights prefixes area : List ℕ) (side : Side) (n le
 
         same : take (suc i) bytes' ≡ take (suc i) s
         same =
-            let a : length (take (suc i) (set bytes i byte)) ≡ suc i = length-take-le (suc i) (set bytes i byte) (omega (arith, length-set bytes i byte, E .mirrored .bytes-size, i-small)) in
+            let a : length (take (suc i) (set bytes i byte)) ≡ suc i = length-take-le (suc i) (set bytes i byte) (omega (arith, length-set bytes i byte, E .bytes-size, i-small)) in
             let b : length (take (suc i) s) ≡ suc i = length-take-le (suc i) s (omega (arith, length-append (take len bytes₀) typed, front)) in
             ap (take (suc i)) (P .bytes-are)
             ∙ ext-getD 0 (take (suc i) (set bytes i byte)) (take (suc i) s) (a ∙ sym b)
@@ -173,13 +173,13 @@ module _ (file places lefts rights prefixes area : List ℕ) (side : Side) (n le
         counts-fit : i < length counts
         counts-fit = omega (arith, E .counts-size, i-small)
 
-        pub extending-more : Extending (k + 1) bytes' reading' codes' counts'
+        pub extending-more : Extending (k + 1) bytes' codes' counts'
         extending-more = record {
-          tables = E .tables;
+          in-form = E .in-form;
           room = E .room;
           start-size = E .start-size;
           within = omega arith;
-          mirrored = rw (more, P .bytes-are, P .reading-are) (mirror-push bytes reading i byte i-small (E .mirrored));
+          bytes-size = rw (P .bytes-are) (length-set bytes i byte ∙ E .bytes-size);
           codes-size = ap length (P .codes-are) ∙ length-set codes i (P .code) ∙ E .codes-size;
           counts-size = ap length (P .counts-are) ∙ length-set counts i (P .count) ∙ E .counts-size;
           rows = rw (P .codes-are) (at-set (λ j c. c < n) codes i (P .code) (len + (k + 1)) codes-fit more (E .rows) (P .row));
@@ -188,20 +188,20 @@ module _ (file places lefts rights prefixes area : List ℕ) (side : Side) (n le
           codes-kept = λ j l. rw (P .codes-are) (getD-set-other codes i j (P .code) 0 (λ y. omega arith) ∙ E .codes-kept j l);
           counts-kept = λ j l. rw (P .counts-are) (getD-set-other counts i j (P .count) 0 (λ y. omega arith) ∙ E .counts-kept j l);
           bytes-are = λ m l. rw (P .bytes-are) (⊎-elim
-              (λ e. let y : m ≡ k = omega arith in rw y (getD-set-same bytes i byte 0 (omega (arith, E .mirrored .bytes-size, i-small))))
+              (λ e. let y : m ≡ k = omega arith in rw y (getD-set-same bytes i byte 0 (omega (arith, E .bytes-size, i-small))))
               (λ b. getD-set-other bytes i (len + m) byte 0 (λ y. omega arith) ∙ E .bytes-are m (omega arith))
               (eq-or-lt-of-le l));
-          codes-are = λ B c d.
+          codes-are = λ prefixes B c d.
               rw (P .codes-are)
-              (at-set (λ j x. x ≡ codeAt D side s j) codes i (P .code) (len + (k + 1)) codes-fit more (E .codes-are B c d) (P .code-is B (codes-before B c d) ∙ code-same i (omega arith)));
-          counts-are = λ B c d.
+              (at-set (λ j x. x ≡ codeAt D side s j) codes i (P .code) (len + (k + 1)) codes-fit more (E .codes-are prefixes B c d) (P .code-is prefixes B (codes-before prefixes B c d) ∙ code-same i (omega arith)));
+          counts-are = λ prefixes B c d.
               rw (P .counts-are)
-              (at-set (λ j x. x ≡ countAt D side s j) counts i (P .count) (len + (k + 1)) counts-fit more (E .counts-are B c d)
-              (P .count-is B (codes-before B c d) (counts-before B c d) ∙ count-same i (omega arith)));
+              (at-set (λ j x. x ≡ countAt D side s j) counts i (P .count) (len + (k + 1)) counts-fit more (E .counts-are prefixes B c d)
+              (P .count-is prefixes B (codes-before prefixes B c d) (counts-before prefixes B c d) ∙ count-same i (omega arith)));
         }
           where
-            codes-before : Built file places lefts rights prefixes area n → CodesAre file side bytes₀ codes₀ len → CountsAre file side bytes₀ counts₀ len → CodesAre file side bytes' codes i
-            codes-before B c d j l = E .codes-are B c d j l ∙ sym (code-same j (omega arith))
+            codes-before : (prefixes : List ℕ) → Built file places lefts rights prefixes area n → CodesAre file side bytes₀ codes₀ len → CountsAre file side bytes₀ counts₀ len → CodesAre file side bytes' codes i
+            codes-before prefixes B c d j l = E .codes-are prefixes B c d j l ∙ sym (code-same j (omega arith))
 
-            counts-before : Built file places lefts rights prefixes area n → CodesAre file side bytes₀ codes₀ len → CountsAre file side bytes₀ counts₀ len → CountsAre file side bytes' counts i
-            counts-before B c d j l = E .counts-are B c d j l ∙ sym (count-same j (omega arith))
+            counts-before : (prefixes : List ℕ) → Built file places lefts rights prefixes area n → CodesAre file side bytes₀ codes₀ len → CountsAre file side bytes₀ counts₀ len → CountsAre file side bytes' counts i
+            counts-before prefixes B c d j l = E .counts-are prefixes B c d j l ∙ sym (count-same j (omega arith))

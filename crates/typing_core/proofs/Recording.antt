@@ -16,7 +16,7 @@ use Rattle.theory.proofs.Lists.{true-false, lt-or-ge}
 use Rattle.tables.specs.InForm.{allBelow}
 use Rattle.tables.proofs.Sweeps.{all-more, all-done, all-fails}
 use Rattle.built.specs.Built.{dictionaryOf, Built}
-use Rattle.prefix_table.specs.Tables.{RowsTo}
+use Rattle.end_code.specs.Tables.{RowsTo}
 use Rattle.typing_core.specs.Steps.{CountsTo, endsBytes, followsCode, countWith, EndsReady, FollowsReady, FollowsIs, CountReady, CountIs, RecordsReady, RecordReady, RecordIs, RecordsAre}
 use Rattle.typing_core.proofs.Rows.{row-count}
 

@@ -10,8 +10,8 @@ use Rattle.theory.specs.Parts.{dictionary}
 use Rattle.tables.specs.Ready.{PlacesReady, Ready}
 use Rattle.token_pair.specs.Pair.{PairReady}
 use Rattle.built.specs.Built.{dictionaryOf}
-use Rattle.prefix_table.specs.Tables.{PartsInForm}
-use Rattle.prefix_table.proofs.Sizes.{any-default}
+use Rattle.end_code.specs.Tables.{PartsInForm}
+use Rattle.end_code.proofs.Sizes.{any-default}
 use Rattle.typing_core.specs.Steps.{PairOf}
 
 pub row-count : (file places : List ℕ) (n : ℕ) → PlacesReady file places n → dictionaryOf file .count ≡ n

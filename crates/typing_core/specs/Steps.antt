@@ -5,7 +5,6 @@ use mathlib.Core.Bool.{Bool, true, cond, _&&_, _||_}
 use Prim.Native.Nat.{ℕ, suc, _+_, _-_, _≤_, _<_}
 use lib.ListN.{length, getD, set, take, drop}
 use lib.Dec.{ltb, leb, eqb}
-use Rattle.placed_rows.specs.Texts.{Begins}
 use Rattle.theory.specs.Dictionary.{Dictionary}
 use Rattle.theory.specs.Lists.{equal}
 use Rattle.theory.specs.Typing as Typing
@@ -14,7 +13,7 @@ use Rattle.tables.specs.declared.Form.the-variants.{Rows, Out}
 use Rattle.tables.specs.InForm.{formOf, allBelow}
 use Rattle.tables.specs.Ready.{PlacesReady, Ready}
 use Rattle.built.specs.Built.{dictionaryOf, Built}
-use Rattle.prefix_table.specs.Tables.{RowsTo, FrontRows, PartsInForm}
+use Rattle.end_code.specs.Tables.{RowsTo, FrontRows, PartsInForm}
 use Rattle.typing_core.specs.Refusals.{anyOut}
 use Rattle.typing_core.specs.Columns.{FormOf}
 
@@ -122,77 +121,54 @@ pub record RecordsAre (file places lefts rights area : List ℕ) (side : Typing.
   pub small : r ≡ true → CountsTo counts len
   pub built : (prefixes : List ℕ) → Built file places lefts rights prefixes area n → r ≡ allBelow len (Typing.inForm (dictionaryOf file) side bytes codes counts)
 
--- what the first code of the text in `reading` from 4,095 - i on needs
-pub record FirstReady (file places lefts rights prefixes area : List ℕ) (n : ℕ) (reading : List ℕ) (i : ℕ) (codes : List ℕ) : Type 0 where
-  pub tables : Ready file places lefts rights prefixes area n
-  pub size : length reading ≡ 4096
-  pub place : i < 4096
-  pub before : FrontRows n codes i
-
--- a row; if any row begins that text and follows, this one does
-pub record FirstIs (file places lefts rights prefixes area : List ℕ) (n : ℕ) (reading : List ℕ) (i : ℕ) (codes : List ℕ) (r : ℕ) : Type 0 where
-  pub row : r < n
-  pub built : Built file places lefts rights prefixes area n → (w : ℕ) → w < n → Begins (dictionaryOf file .bytes w) (drop (4095 - i) reading)
-      → followsCode (dictionaryOf file) Typing.prepend codes i w ≡ true
-      → Begins (dictionaryOf file .bytes r) (drop (4095 - i) reading) × (followsCode (dictionaryOf file) Typing.prepend codes i r ≡ true)
-
--- what the code of the first i + 1 typed bytes needs
-pub record CodeReady (file places lefts rights prefixes area : List ℕ) (n : ℕ) (bytes reading : List ℕ) (i : ℕ) (codes : List ℕ) : Type 0 where
-  pub tables : Ready file places lefts rights prefixes area n
-  pub mirrored : Mirrored bytes reading (suc i)
-  pub codes-size : length codes ≡ 4096
-  pub before : RowsTo n codes i
-
 -- a row; behind true codes the code of record i, and behind true counts its count goes with it
-pub record CodeIs (file places lefts rights prefixes area : List ℕ) (side : Typing.Side) (n : ℕ) (bytes : List ℕ) (i : ℕ) (codes : List ℕ) (r : ℕ) : Type 0 where
+pub record CodeIs (file places lefts rights area : List ℕ) (side : Typing.Side) (n : ℕ) (bytes : List ℕ) (i : ℕ) (codes : List ℕ) (r : ℕ) : Type 0 where
   pub row : r < n
-  pub code : Built file places lefts rights prefixes area n → CodesAre file side bytes codes i → r ≡ Typing.codeAt (dictionaryOf file) side bytes i
-  pub count : Built file places lefts rights prefixes area n → CodesAre file side bytes codes i → (counts : List ℕ) → CountsAre file side bytes counts i
+  pub code : (prefixes : List ℕ) → Built file places lefts rights prefixes area n → CodesAre file side bytes codes i → r ≡ Typing.codeAt (dictionaryOf file) side bytes i
+  pub count : (prefixes : List ℕ) → Built file places lefts rights prefixes area n → CodesAre file side bytes codes i → (counts : List ℕ) → CountsAre file side bytes counts i
       → countWith (dictionaryOf file) counts i r ≡ Typing.countAt (dictionaryOf file) side bytes i
 
 -- what one byte more at place i needs
-pub record PushReady (file places lefts rights prefixes area : List ℕ) (n i : ℕ) (bytes reading codes counts : List ℕ) : Type 0 where
-  pub tables : Ready file places lefts rights prefixes area n
+pub record PushReady (file places lefts rights area : List ℕ) (n i : ℕ) (bytes codes counts : List ℕ) : Type 0 where
+  pub in-form : PartsInForm file places lefts rights area n
   pub place : i < 4096
-  pub mirrored : Mirrored bytes reading i
+  pub bytes-size : length bytes ≡ 4096
   pub codes-size : length codes ≡ 4096
   pub counts-size : length counts ≡ 4096
   pub rows : RowsTo n codes i
   pub small : CountsTo counts i
 
 -- one byte more at place i: nothing but record i is written; behind true records it is the true one
-pub record Pushed (file places lefts rights prefixes area : List ℕ) (side : Typing.Side) (n i byte : ℕ)
-    (bytes reading codes counts bytes' reading' codes' counts' : List ℕ) : Type 0 where
+pub record Pushed (file places lefts rights area : List ℕ) (side : Typing.Side) (n i byte : ℕ) (bytes codes counts bytes' codes' counts' : List ℕ) : Type 0 where
   pub code : ℕ
   pub count : ℕ
   pub row : code < n
   pub small : count ≤ suc i
   pub bytes-are : bytes' ≡ set bytes i byte
-  pub reading-are : reading' ≡ set reading (4095 - i) byte
   pub codes-are : codes' ≡ set codes i code
   pub counts-are : counts' ≡ set counts i count
-  pub code-is : Built file places lefts rights prefixes area n → CodesAre file side bytes' codes i → code ≡ Typing.codeAt (dictionaryOf file) side bytes' i
-  pub count-is : Built file places lefts rights prefixes area n → CodesAre file side bytes' codes i → CountsAre file side bytes' counts i
+  pub code-is : (prefixes : List ℕ) → Built file places lefts rights prefixes area n → CodesAre file side bytes' codes i → code ≡ Typing.codeAt (dictionaryOf file) side bytes' i
+  pub count-is : (prefixes : List ℕ) → Built file places lefts rights prefixes area n → CodesAre file side bytes' codes i → CountsAre file side bytes' counts i
       → count ≡ Typing.countAt (dictionaryOf file) side bytes' i
 
 -- what the bytes typed behind the first len need
-pub record ExtendReady (file places lefts rights prefixes area : List ℕ) (n len : ℕ) (bytes reading codes counts typed : List ℕ) : Type 0 where
-  pub tables : Ready file places lefts rights prefixes area n
+pub record ExtendReady (file places lefts rights area : List ℕ) (n len : ℕ) (bytes codes counts typed : List ℕ) : Type 0 where
+  pub in-form : PartsInForm file places lefts rights area n
   pub room : len + length typed ≤ 4096
-  pub mirrored : Mirrored bytes reading len
+  pub bytes-size : length bytes ≡ 4096
   pub codes-size : length codes ≡ 4096
   pub counts-size : length counts ≡ 4096
   pub rows : RowsTo n codes len
   pub small : CountsTo counts len
 
 -- the records of the bytes typed stand behind the first len, which are as before; behind true records they are the true ones
-pub record ExtendedBy (file places lefts rights prefixes area : List ℕ) (side : Typing.Side) (n len : ℕ)
+pub record ExtendedBy (file places lefts rights area : List ℕ) (side : Typing.Side) (n len : ℕ)
     (bytes codes counts typed bytes' codes' counts' : List ℕ) : Type 0 where
   pub bytes-kept : (j : ℕ) → j < len → getD bytes' j 0 ≡ getD bytes j 0
   pub codes-kept : (j : ℕ) → j < len → getD codes' j 0 ≡ getD codes j 0
   pub counts-kept : (j : ℕ) → j < len → getD counts' j 0 ≡ getD counts j 0
   pub bytes-are : (k : ℕ) → k < length typed → getD bytes' (len + k) 0 ≡ getD typed k 0
-  pub built : Built file places lefts rights prefixes area n → CodesAre file side bytes codes len → CountsAre file side bytes counts len
+  pub built : (prefixes : List ℕ) → Built file places lefts rights prefixes area n → CodesAre file side bytes codes len → CountsAre file side bytes counts len
       → CodesAre file side (take len bytes ++ typed) codes' (len + length typed) × CountsAre file side (take len bytes ++ typed) counts' (len + length typed)
 
 -- records that passed the checks: over tables that a build left they are the true ones

@@ -3,12 +3,13 @@
 ghost use mathlib.Core.Path.{_≡_};
 ghost use lib.ListN.{length};
 ghost use Rattle.built.specs.Built.{dictionaryOf};
-ghost use Rattle.prefix_table.specs.Tables.{RowReady};
+ghost use Rattle.end_code.specs.Tables.{RowReady};
+ghost use Rattle.end_code.specs.Codes.{CodeReady};
 ghost use Rattle.typing_core.specs.Sides.{sideOf};
 ghost use Rattle.typing_core.specs.Columns.{ExtendedColumns, CountedColumns};
-ghost use Rattle.typing_core.specs.Steps.{FillReady, Mirrored, Sizes, endsBytes, EndsReady, PairOf, BesideIs, FollowsReady, FollowsIs, CountReady, CountIs, RecordsReady, RecordReady, RecordIs, RecordsAre, FirstReady, FirstIs, CodeReady, CodeIs, PushReady, Pushed, ExtendReady, ExtendedBy, Checked};
+ghost use Rattle.typing_core.specs.Steps.{FillReady, Mirrored, Sizes, endsBytes, EndsReady, PairOf, BesideIs, FollowsReady, FollowsIs, CountReady, CountIs, RecordsReady, RecordReady, RecordIs, RecordsAre, CodeIs, PushReady, Pushed, ExtendReady, ExtendedBy, Checked};
 use causes::Cause;
-use placed_rows::NONE;
+use end_code::end_code_at;
 use placed_rows::wide;
 use tables::Answer;
 use tables::Form;
@@ -202,45 +203,6 @@ pub fn records_in_form(
     true
 }
 
-// The first code of the text in `reading` from 4095 - i on, where `codes` has those of all shorter suffixes, or 0. The rows that begin the
-// text are tried longest first.
-fn first_code_at(
-    file: &[u8],
-    places: &[u32],
-    lefts: &[u32],
-    rights: &[u32],
-    prefixes: &[u32],
-    area: &[u32],
-    n: usize,
-    reading: &[u8],
-    i: usize,
-    codes: &[u32],
-) -> u32
-    requires { ⌜ FirstReady (now file) (now places) (now lefts) (now rights) (now prefixes) (now area) n (now reading) i (now codes) ⌝ }
-    ensures { λ r. ⌜ FirstIs (now (file .entry)) (now (places .entry)) (now (lefts .entry)) (now (rights .entry)) (now (prefixes .entry)) (now (area .entry)) n (now (reading .entry)) i (now (codes .entry)) r ⌝ }
-{
-    let found = search_area::next_match(file, places, n, area, reading, 4095 - i);
-    let mut token = found.row;
-    while token != NONE {
-        if follows(
-            Side::Prepend,
-            file,
-            places,
-            lefts,
-            rights,
-            area,
-            n,
-            codes,
-            i,
-            token,
-        ) {
-            return token;
-        }
-        token = prefixes[token as usize];
-    }
-    0
-}
-
 // The code of the first i + 1 typed bytes, where `codes` has those of all shorter ones: the last code in appending, the first in prepending.
 fn code_at(
     side: Side,
@@ -248,85 +210,43 @@ fn code_at(
     places: &[u32],
     lefts: &[u32],
     rights: &[u32],
-    prefixes: &[u32],
     area: &[u32],
     n: usize,
     bytes: &[u8],
-    reading: &[u8],
     i: usize,
     codes: &[u32],
-    found: &mut [u32; 64],
 ) -> u32
-    requires { ⌜ CodeReady (now file) (now places) (now lefts) (now rights) (now prefixes) (now area) n (now bytes) (now reading) i (now codes) ⌝ }
-    ensures { λ r. ⌜ CodeIs (now (file .entry)) (now (places .entry)) (now (lefts .entry)) (now (rights .entry)) (now (prefixes .entry)) (now (area .entry)) (sideOf side) n (now (bytes .entry)) i (now (codes .entry)) r ⌝ }
+    requires { ⌜ CodeReady (now file) (now places) (now lefts) (now rights) (now area) n (now bytes) i (now codes) ⌝ }
+    ensures { λ r. ⌜ CodeIs (now (file .entry)) (now (places .entry)) (now (lefts .entry)) (now (rights .entry)) (now (area .entry)) (sideOf side) n (now (bytes .entry)) i (now (codes .entry)) r ⌝ }
 {
     match side {
-        Side::Append => prefix_table::last_code_at(
-            file,
-            places,
-            lefts,
-            rights,
-            area,
-            n,
-            bytes,
-            i,
-            codes,
-            found,
-        ),
-        Side::Prepend => first_code_at(
-            file,
-            places,
-            lefts,
-            rights,
-            prefixes,
-            area,
-            n,
-            reading,
-            i,
-            codes,
-        ),
+        Side::Append => { end_code_at(file, places, lefts, rights, area, n, bytes, i, codes, true) }
+        Side::Prepend => {
+            end_code_at(file, places, lefts, rights, area, n, bytes, i, codes, false)
+        }
     }
 }
 
-// One byte more, at place i. `found` is scratch.
+// One byte more, at place i.
 pub fn push_core(
     side: Side,
     file: &[u8],
     places: &[u32],
     lefts: &[u32],
     rights: &[u32],
-    prefixes: &[u32],
     area: &[u32],
     n: usize,
     i: usize,
     byte: u8,
     bytes: &mut [u8],
-    reading: &mut [u8],
     codes: &mut [u32],
     counts: &mut [u32],
-    found: &mut [u32; 64],
 )
-    requires { ⌜ PushReady (now file) (now places) (now lefts) (now rights) (now prefixes) (now area) n i (now bytes) (now reading) (now codes) (now counts) ⌝ }
-    ensures { λ r. ⌜ Pushed (now (file .entry)) (now (places .entry)) (now (lefts .entry)) (now (rights .entry)) (now (prefixes .entry)) (now (area .entry)) (sideOf side) n i byte (now (bytes .entry)) (now (reading .entry)) (now (codes .entry)) (now (counts .entry)) (now (bytes .exit)) (now (reading .exit)) (now (codes .exit)) (now (counts .exit)) ⌝ }
+    requires { ⌜ PushReady (now file) (now places) (now lefts) (now rights) (now area) n i (now bytes) (now codes) (now counts) ⌝ }
+    ensures { λ r. ⌜ Pushed (now (file .entry)) (now (places .entry)) (now (lefts .entry)) (now (rights .entry)) (now (area .entry)) (sideOf side) n i byte (now (bytes .entry)) (now (codes .entry)) (now (counts .entry)) (now (bytes .exit)) (now (codes .exit)) (now (counts .exit)) ⌝ }
 {
     bytes[i] = byte;
-    let at = 4095 - i;
-    reading[at] = byte;
-    let code = code_at(
-        side,
-        file,
-        places,
-        lefts,
-        rights,
-        prefixes,
-        area,
-        n,
-        bytes,
-        reading,
-        i,
-        codes,
-        found,
-    );
+    let code = code_at(side, file, places, lefts, rights, area, n, bytes, i, codes);
     codes[i] = code;
     counts[i] = count_with(file, places, n, counts, i, code);
 }
@@ -338,20 +258,17 @@ pub fn extend_core(
     places: &[u32],
     lefts: &[u32],
     rights: &[u32],
-    prefixes: &[u32],
     area: &[u32],
     n: usize,
     len: usize,
     bytes: &mut [u8],
-    reading: &mut [u8],
     codes: &mut [u32],
     counts: &mut [u32],
     typed: &[u8],
 )
-    requires { ⌜ ExtendReady (now file) (now places) (now lefts) (now rights) (now prefixes) (now area) n len (now bytes) (now reading) (now codes) (now counts) (now typed) ⌝ }
-    ensures { λ r. ⌜ ExtendedBy (now (file .entry)) (now (places .entry)) (now (lefts .entry)) (now (rights .entry)) (now (prefixes .entry)) (now (area .entry)) (sideOf side) n len (now (bytes .entry)) (now (codes .entry)) (now (counts .entry)) (now (typed .entry)) (now (bytes .exit)) (now (codes .exit)) (now (counts .exit)) ⌝ }
+    requires { ⌜ ExtendReady (now file) (now places) (now lefts) (now rights) (now area) n len (now bytes) (now codes) (now counts) (now typed) ⌝ }
+    ensures { λ r. ⌜ ExtendedBy (now (file .entry)) (now (places .entry)) (now (lefts .entry)) (now (rights .entry)) (now (area .entry)) (sideOf side) n len (now (bytes .entry)) (now (codes .entry)) (now (counts .entry)) (now (typed .entry)) (now (bytes .exit)) (now (codes .exit)) (now (counts .exit)) ⌝ }
 {
-    let mut found = [0u32; 64];
     let mut k = 0;
     while k < typed.len() {
         push_core(
@@ -360,16 +277,13 @@ pub fn extend_core(
             places,
             lefts,
             rights,
-            prefixes,
             area,
             n,
             len + k,
             typed[k],
             bytes,
-            reading,
             codes,
             counts,
-            &mut found,
         );
         k += 1;
     }
@@ -475,12 +389,10 @@ pub fn extend_columns(
         places,
         lefts,
         rights,
-        prefixes,
         area,
         n,
         len,
         bytes,
-        &mut reading,
         codes,
         counts,
         typed,

@@ -1,6 +1,6 @@
 -- The length read is that of the dictionary's row. Assumes nothing.
 use borrow.Author.Needs.{needs}
-use Rattle.prefix_table.proofs.Sizes.{read-size}
+use Rattle.end_code.proofs.Sizes.{read-size}
 use Rattle.prefix_table.proofs.token_len.Statement.{statement}
 use Rattle.prefix_table.proofs.token_len.Tie as tie
 

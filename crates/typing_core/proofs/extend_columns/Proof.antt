@@ -32,14 +32,11 @@ returns-3 c = extend-slice _ _ _ _ _ _ _ _ _ _ _ _ _ _ _ _ (c .before .before .b
 returns-4 : tie.Need-returns-4
 returns-4 c = extend-most _ _ _ _ _ _ _ _ _ _ _ _ _ _ _ _ (c .before .before .before .before .before .before .before .before .before .before .before .before .before .before .if1 .left) _ _ (rw (c .before .before .before .n .given .1) at (c .before .before .before .before .before .before .columns-in-form .ensures)) (c .before .if2 .left) (c .if3 .taken)
 
-slice-aggregate-extend-core : tie.Need-slice-aggregate-extend-core
-slice-aggregate-extend-core c = search needs
-
 extend-core-requires : tie.Need-extend-core-requires
-extend-core-requires c κs = extend-ready _ _ _ _ _ _ _ _ _ _ _ _ _ _ _ (rw (c .before .before .before .before .before .before .before .n .given .1) at (c .before .before .before .before .before .before .before .before .before .before .columns-in-form .ensures)) (c .before .before .before .before .if3 .left) (c .before .extend-core-arg2 .given .0 .1) (c .extend-core-arg3 .given .0 .1)
+extend-core-requires c κs = extend-ready _ _ _ _ _ _ _ _ _ _ _ _ _ _ _ (rw (c .before .before .before .before .before .before .n .given .1) at (c .before .before .before .before .before .before .before .before .before .columns-in-form .ensures)) (c .before .before .before .if3 .left) (c .before .extend-core-arg2 .given .0 .1) (c .extend-core-arg3 .given .0 .1)
 
 returns-5 : tie.Need-returns-5
-returns-5 c = extend-done _ _ _ _ _ _ _ _ _ _ _ _ _ _ _ _ (c .before .before .before .before .before .before .before .before .before .before .before .before .before .before .before .before .before .before .before .before .if1 .left) _ _ (rw (c .before .before .before .before .before .before .before .before .before .n .given .1) at (c .before .before .before .before .before .before .before .before .before .before .before .before .columns-in-form .ensures)) (c .before .before .before .before .before .before .before .if2 .left) (c .before .before .before .before .before .before .if3 .left) (c .before .extend-core .ensures)
+returns-5 c = extend-done _ _ _ _ _ _ _ _ _ _ _ _ _ _ _ _ (c .before .before .before .before .before .before .before .before .before .before .before .before .before .before .before .before .before .before .if1 .left) _ _ (rw (c .before .before .before .before .before .before .before .n .given .1) at (c .before .before .before .before .before .before .before .before .before .before .columns-in-form .ensures)) (c .before .before .before .before .before .if2 .left) (c .before .before .before .before .if3 .left) (c .extend-core .ensures)
 
 pub extend-columns-spec : {M : Type 1} → statement M
 extend-columns-spec =
@@ -54,6 +51,5 @@ extend-columns-spec =
     add-longer
     returns-3
     returns-4
-    slice-aggregate-extend-core
     extend-core-requires
     returns-5)

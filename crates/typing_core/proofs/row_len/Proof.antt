@@ -1,5 +1,5 @@
 -- The length read is that of the dictionary's row. Assumes nothing.
-use Rattle.prefix_table.proofs.Sizes.{read-size}
+use Rattle.end_code.proofs.Sizes.{read-size}
 use borrow.Author.Needs.{needs}
 use Rattle.typing_core.proofs.row_len.Statement.{statement}
 use Rattle.typing_core.proofs.row_len.Tie as tie

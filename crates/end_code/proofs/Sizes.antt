@@ -8,7 +8,7 @@ use Rattle.phrase_file.specs.Form.{rows}
 use Rattle.placed_rows.specs.Rows.{row}
 use Rattle.theory.specs.Parts.{dictionary}
 use Rattle.built.specs.Built.{dictionaryOf}
-use Rattle.prefix_table.specs.Tables.{RowReady}
+use Rattle.end_code.specs.Tables.{RowReady}
 
 -- the default does not matter below the length
 pub any-default : {A : Type 0} (l : List A) (i : ℕ) (d e : A) → i < length l → getD l i d ≡ getD l i e

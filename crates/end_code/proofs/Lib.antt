@@ -1,0 +1,5 @@
+pub mod Sizes
+pub mod Parts
+pub mod Searching
+pub mod Bytes
+pub mod Reaching

@@ -1,0 +1,59 @@
+-- The first join of a row with the code beside which it is typed, over tables: what may be read, and what is answered. Assumes nothing.
+use mathlib.Core.Path.{_≡_}
+use mathlib.Core.Logic.{_⊎_}
+use mathlib.Core.List.{List}
+use mathlib.Core.Bool.{Bool, true, false}
+use Prim.Native.Nat.{ℕ, _+_, _≤_, _<_}
+use lib.ListN.{length, getD}
+use Rattle.placed_rows.specs.Rows.{none, Placed}
+use Rattle.theory.specs.Typing.{Side, append, prepend}
+use Rattle.theory.specs.FirstJoin.{JoinBelow, FirstJoin}
+use Rattle.built.specs.Built.{dictionaryOf, Built}
+use Rattle.end_code.specs.Tables.{PartsInForm}
+
+-- whether rows are typed at the end of the text, or at its front
+abbrev pub sideOf : Bool → Side
+sideOf true = append
+sideOf false = prepend
+
+abbrev pub boundOf : Bool → ℕ → ℕ
+boundOf true x = x
+boundOf false x = x + 1
+
+abbrev pub innerOf : List ℕ → List ℕ → Bool → ℕ → ℕ
+innerOf lefts rights true x = getD rights x 0
+innerOf lefts rights false x = getD lefts x 0
+
+abbrev pub otherOf : List ℕ → List ℕ → Bool → ℕ → ℕ
+otherOf lefts rights true x = getD lefts x 0
+otherOf lefts rights false x = getD rights x 0
+
+-- the parts of row x may be read
+pub record PartReady (lefts rights : List ℕ) (x : ℕ) : Type 0 where
+  pub left-room : x < length lefts
+  pub right-room : x < length rights
+
+-- what one join needs: the rows, the parts of the rows below m, and two rows
+pub record BesideReady (file places lefts rights area : List ℕ) (n m x s : ℕ) : Type 0 where
+  pub placed : Placed file places n
+  pub area-room : 16384 ≤ length area
+  pub left-room : m ≤ length lefts
+  pub right-room : m ≤ length rights
+  pub row : x < n
+  pub typed : s < n
+
+-- the row below m that has x and, typed beside it, s as its parts
+pub record BesideIs (file places lefts rights area : List ℕ) (at-end : Bool) (n m x s r : ℕ) : Type 0 where
+  pub bound : (r ≡ none) ⊎ (r < m)
+  pub built : (prefixes : List ℕ) → Built file places lefts rights prefixes area n → m ≤ n → x < n → s < n → JoinBelow (dictionaryOf file) (sideOf at-end) m x s r
+
+-- what the first join needs: tables in form, and two rows
+pub record FirstReady (file places lefts rights area : List ℕ) (n u s : ℕ) : Type 0 where
+  pub in-form : PartsInForm file places lefts rights area n
+  pub row : u < n
+  pub typed : s < n
+
+-- the lowest row that joins s and what u has at that end by then
+pub record FirstIs (file places lefts rights area : List ℕ) (at-end : Bool) (n u s r : ℕ) : Type 0 where
+  pub bound : (r ≡ none) ⊎ (r < n)
+  pub built : (prefixes : List ℕ) → Built file places lefts rights prefixes area n → FirstJoin (dictionaryOf file) (sideOf at-end) u s r

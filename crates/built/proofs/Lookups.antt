@@ -1,27 +1,20 @@
 -- What the lookups answer over tables that an accepting build left, in terms of its dictionary. Assumes nothing.
 use mathlib.Core.Path.{_≡_, refl, sym, ap, ap₂, _∙_}
 use mathlib.Core.Logic.{_⊎_, inl, inr, ⊎-elim}
-use mathlib.Core.List.{List, [], _∷_, _++_, append-nil}
-use mathlib.Core.Bool.{Bool, true, false}
-use Prim.Native.Nat.{ℕ, zero, suc, _+_, _-_, _≤_, _<_}
+use mathlib.Core.List.{List, [], _∷_, _++_}
+use Prim.Native.Nat.{ℕ, _-_, _≤_, _<_}
 use native.Mathlib.Omega.{arith}
-use native.Mathlib.Decide.{decLt}
-use lib.ListN.{length, length-append, getD, take, drop}
-use Rattle.phrase_file.specs.Form.{rows}
-use Rattle.placed_rows.specs.Rows.{none, row, Placed}
-use Rattle.placed_rows.specs.Texts.{Begins, Ends}
+use lib.ListN.{length, length-append, getD, drop}
+use Rattle.placed_rows.specs.Rows.{none, row}
+use Rattle.placed_rows.specs.Texts.{Begins}
 use Rattle.placed_rows.specs.Longest.{Below, Longest}
 use Rattle.theory.specs.Lists.{firstOr}
 use Rattle.theory.specs.Dictionary.{Dictionary, Octets, KnownText}
-use Rattle.theory.specs.Merge.{join}
-use Rattle.theory.specs.Parts.{rowsUpTo, rowsAt, prefixes, prefix, longestAt}
+use Rattle.theory.specs.Parts.{rowsAt, prefixes, prefix, longestAt}
 use Rattle.theory.proofs.PairCheck.{Lawful}
-use Rattle.theory.proofs.RowsAt.{In, Beginning, Different, LongestUpTo, different, filled, first-is, rows-in, rows-chain, rows-every}
+use Rattle.theory.proofs.RowsAt.{LongestUpTo, different, filled, first-is, rows-in, rows-chain}
 use Rattle.theory.proofs.Longest.{rows-front, longest-at}
-use Rattle.theory.proofs.Lists.{nil-cons}
-use Rattle.search_area.specs.Area.{Finds}
-use Rattle.search_area.specs.Answers.{NextMatch, Found, RowIs}
-use Rattle.search_area.specs.Endings.{EndsAt, EndsText, Listed, Among}
+use Rattle.search_area.specs.Answers.{NextMatch, Found}
 use Rattle.built.specs.Built.{dictionaryOf, Built}
 use Rattle.built.proofs.Rows.{count-is, row-bytes, places-ready, lawful-is, known}
 

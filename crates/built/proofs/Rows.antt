@@ -1,21 +1,20 @@
 -- The rows and the tables of an accepting build, in terms of its dictionary. Assumes nothing.
-use mathlib.Core.Path.{_≡_, refl, sym, ap, ap₂, _∙_}
-use mathlib.Core.Logic.{_⊎_, inl, inr, ⊎-elim}
-use mathlib.Core.List.{List, [], _∷_, _++_}
-use mathlib.Core.Bool.{Bool, true, false}
-use Prim.Native.Nat.{ℕ, zero, suc, _+_, _-_, _≤_, _<_}
+use mathlib.Core.Path.{_≡_, refl, sym, ap, _∙_}
+use mathlib.Core.List.{List, [], _∷_}
+use mathlib.Core.Bool.{Bool}
+use Prim.Native.Nat.{ℕ, zero, suc, _+_, _-_, _<_}
 use native.Mathlib.Omega.{arith}
 use lib.ListN.{length, length-take, getD, take, drop}
-use lib.Seq.{getD-take, length-take-le}
+use lib.Seq.{getD-take}
 use borrow.Author.Tests.{lt-ltb}
 use lib.Dec.{ltb}
 use Rattle.phrase_file.specs.Form.{places, rows}
 use Rattle.phrase_file.proofs.Checks as Checks
 use Rattle.phrase_file.proofs.Rows as FileRows
-use Rattle.placed_rows.specs.Rows.{row, Placed}
-use Rattle.theory.specs.Dictionary.{Dictionary, Octets, KnownText}
+use Rattle.placed_rows.specs.Rows.{row}
+use Rattle.theory.specs.Dictionary.{Octets, KnownText}
 use Rattle.theory.specs.PairCheck.{passes}
-use Rattle.theory.specs.Parts.{bytesOf, dictionary}
+use Rattle.theory.specs.Parts.{dictionary}
 use Rattle.theory.proofs.PairCheck.{Lawful}
 use Rattle.theory.proofs.Accepted.{lawful, known-text}
 use Rattle.tables.specs.Ready.{PlacesReady}

@@ -21,15 +21,15 @@ use Rattle.end_code.specs.Joins.{sideOf, boundOf, innerOf, BesideReady, 
 use Rattle.end_code.proofs.Parts.{bound-is, inner-is, inner-lower, inner-long, inner-single}
 
 module _ (file places lefts rights area : List ℕ) (n m x s : ℕ) where
-  pub beside-ready : BesideReady file places lefts rights area n m x s → JoinReady file places lefts rights area n m x s
-  beside-ready R = record { placed = R .placed; area-room = R .area-room; left-room = R .left-room; right-room = R .right-room; left-below = R .row; right-below = R .typed }
+  pub beside-ready : BesideReady file places lefts rights area n m x s → JoinReady file places lefts rights area n n m x s
+  beside-ready R = record { placed = R .placed; area-room = R .area-room; left-room = R .left-room; right-room = R .right-room; below = R .below; left-below = R .row; right-below = R .typed }
 
-  pub beside-turned : BesideReady file places lefts rights area n m x s → JoinReady file places lefts rights area n m s x
-  beside-turned R = record { placed = R .placed; area-room = R .area-room; left-room = R .left-room; right-room = R .right-room; left-below = R .typed; right-below = R .row }
+  pub beside-turned : BesideReady file places lefts rights area n m x s → JoinReady file places lefts rights area n n m s x
+  beside-turned R = record { placed = R .placed; area-room = R .area-room; left-room = R .left-room; right-room = R .right-room; below = R .below; left-below = R .typed; right-below = R .row }
 
 -- the join of two rows, in terms of the dictionary
-module _ (file places lefts rights area : List ℕ) (n m u v r : ℕ) (J : JoinIs file places lefts rights area n m u v r)
-    (prefixes : List ℕ) (B : Built file places lefts rights prefixes area n) (hm : m ≤ n) (hu : u < n) (hv : v < n) where
+module _ (file places lefts rights area : List ℕ) (n m u v r : ℕ) (J : JoinIs file places lefts rights area n n m u v r)
+    (prefixes : List ℕ) (B : Built file places lefts rights prefixes area n) (hu : u < n) (hv : v < n) where
   abbrev D : Dictionary
   D = dictionaryOf file
 
@@ -45,33 +45,33 @@ module _ (file places lefts rights area : List ℕ) (n m u v r : ℕ) (J : JoinI
 
   none-below : r ≡ none → (w : ℕ) → w < m → listed D w u v ≡ false
   none-below z w h = bool-cases (listed D w u v)
-      (λ e. absurd (true-false (sym (listed-one D m u v w h e) ∙ J .nothing z n hm pair-ready D (tells file places lefts rights prefixes area n B) (distinct-rows file places lefts rights prefixes area n B) (B .finds) (B .pairs-marked))))
+      (λ e. absurd (true-false (sym (listed-one D m u v w h e) ∙ J .nothing z pair-ready D (tells file places lefts rights prefixes area n B) (distinct-rows file places lefts rights prefixes area n B) (B .finds) (B .pairs-marked))))
       (λ e. e)
 
   some-below : (r ≡ none → ⊥) → r < m
   some-below z = ⊎-elim (λ e. absurd (z e)) (λ h. h) (J .bound)
 
   is-listed : (r ≡ none → ⊥) → listed D r u v ≡ true
-  is-listed z = J .is z n hm pair-ready D (tells file places lefts rights prefixes area n B) (distinct-rows file places lefts rights prefixes area n B) (B .finds)
+  is-listed z = J .is z pair-ready D (tells file places lefts rights prefixes area n B) (distinct-rows file places lefts rights prefixes area n B) (B .finds)
 
 module _ (file places lefts rights area : List ℕ) (n m x s r : ℕ) where
-  pub beside-append : JoinIs file places lefts rights area n m x s r → BesideIs file places lefts rights area true n m x s r
+  pub beside-append : JoinIs file places lefts rights area n n m x s r → BesideIs file places lefts rights area true n m x s r
   beside-append J = record {
     bound = J .bound;
-    built = λ prefixes B hm hx hs. record {
-      nothing = none-below file places lefts rights area n m x s r J prefixes B hm hx hs;
-      below = some-below file places lefts rights area n m x s r J prefixes B hm hx hs;
-      is = is-listed file places lefts rights area n m x s r J prefixes B hm hx hs;
+    built = λ prefixes B hx hs. record {
+      nothing = none-below file places lefts rights area n m x s r J prefixes B hx hs;
+      below = some-below file places lefts rights area n m x s r J prefixes B hx hs;
+      is = is-listed file places lefts rights area n m x s r J prefixes B hx hs;
     };
   }
 
-  pub beside-prepend : JoinIs file places lefts rights area n m s x r → BesideIs file places lefts rights area false n m x s r
+  pub beside-prepend : JoinIs file places lefts rights area n n m s x r → BesideIs file places lefts rights area false n m x s r
   beside-prepend J = record {
     bound = J .bound;
-    built = λ prefixes B hm hx hs. record {
-      nothing = none-below file places lefts rights area n m s x r J prefixes B hm hs hx;
-      below = some-below file places lefts rights area n m s x r J prefixes B hm hs hx;
-      is = is-listed file places lefts rights area n m s x r J prefixes B hm hs hx;
+    built = λ prefixes B hx hs. record {
+      nothing = none-below file places lefts rights area n m s x r J prefixes B hs hx;
+      below = some-below file places lefts rights area n m s x r J prefixes B hs hx;
+      is = is-listed file places lefts rights area n m s x r J prefixes B hs hx;
     };
   }
 
@@ -101,8 +101,9 @@ module _ (file places lefts rights area : List ℕ) (at-end : Bool) (n u s : ℕ
     search-ready = record {
       placed = S .ready .in-form .places-ready .placed;
       area-room = S .ready .in-form .area-room;
-      left-room = omega (arith, S .most, S .ready .in-form .parts-ready .left-room);
-      right-room = omega (arith, S .most, S .ready .in-form .parts-ready .right-room);
+      left-room = S .ready .in-form .parts-ready .left-room;
+      right-room = S .ready .in-form .parts-ready .right-room;
+      below = S .most;
       row = S .row;
       typed = S .ready .typed;
     }
@@ -129,7 +130,7 @@ module _ (file places lefts rights area : List ℕ) (at-end : Bool) (n u s : ℕ
               built = λ prefixes B.
                   let L = lawful-is file places lefts rights prefixes area n B in
                   rw (eb, ep, eo, bound-is at-end x, inner-is file places lefts rights area n (S .ready .in-form) x (S .row) prefixes B at-end)
-                  (Spine.search-next (dictionaryOf file) L (sideOf at-end) u s x bound best v (S .built prefixes B) (F .built prefixes B (S .most) (S .row) (S .ready .typed))
+                  (Spine.search-next (dictionaryOf file) L (sideOf at-end) u s x bound best v (S .built prefixes B) (F .built prefixes B (S .row) (S .ready .typed))
                   (inner-long file places lefts rights area n (S .ready .in-form) x (S .row) prefixes B at-end (rw (← ep) d)));
             },
           )
@@ -143,6 +144,6 @@ module _ (file places lefts rights area : List ℕ) (at-end : Bool) (n u s : ℕ
         bound = found best' eb;
         built = λ prefixes B.
             rw eb
-            (Spine.search-end (dictionaryOf file) (lawful-is file places lefts rights prefixes area n B) (sideOf at-end) u s x bound best v (S .built prefixes B) (F .built prefixes B (S .most) (S .row) (S .ready .typed))
+            (Spine.search-end (dictionaryOf file) (lawful-is file places lefts rights prefixes area n B) (sideOf at-end) u s x bound best v (S .built prefixes B) (F .built prefixes B (S .row) (S .ready .typed))
             (inner-single file places lefts rights area n (S .ready .in-form) x (S .row) prefixes B at-end (sym ep ∙ d)));
       }

@@ -33,19 +33,20 @@ pub record PartReady (lefts rights : List ℕ) (x : ℕ) : Type 0 where
   pub left-room : x < length lefts
   pub right-room : x < length rights
 
--- what one join needs: the rows, the parts of the rows below m, and two rows
+-- what one join below m needs: the rows with their parts, and two rows
 pub record BesideReady (file places lefts rights area : List ℕ) (n m x s : ℕ) : Type 0 where
   pub placed : Placed file places n
   pub area-room : 16384 ≤ length area
-  pub left-room : m ≤ length lefts
-  pub right-room : m ≤ length rights
+  pub left-room : n ≤ length lefts
+  pub right-room : n ≤ length rights
+  pub below : m ≤ n
   pub row : x < n
   pub typed : s < n
 
 -- the row below m that has x and, typed beside it, s as its parts
 pub record BesideIs (file places lefts rights area : List ℕ) (at-end : Bool) (n m x s r : ℕ) : Type 0 where
   pub bound : (r ≡ none) ⊎ (r < m)
-  pub built : (prefixes : List ℕ) → Built file places lefts rights prefixes area n → m ≤ n → x < n → s < n → JoinBelow (dictionaryOf file) (sideOf at-end) m x s r
+  pub built : (prefixes : List ℕ) → Built file places lefts rights prefixes area n → x < n → s < n → JoinBelow (dictionaryOf file) (sideOf at-end) m x s r
 
 -- what the first join needs: tables in form, and two rows
 pub record FirstReady (file places lefts rights area : List ℕ) (n u s : ℕ) : Type 0 where

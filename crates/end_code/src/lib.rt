@@ -62,10 +62,22 @@ fn join_beside(
     requires { ⌜ BesideReady (now file) (now places) (now lefts) (now rights) (now area) n bound x typed ⌝ }
     ensures { λ r. ⌜ BesideIs (now (file .entry)) (now (places .entry)) (now (lefts .entry)) (now (rights .entry)) (now (area .entry)) append n bound x typed r ⌝ }
 {
+    let limit = n as u32;
     if append {
-        return token_pair::join_before(file, places, lefts, rights, area, n, bound, x, typed);
+        return token_pair::join_before(
+            file,
+            places,
+            lefts,
+            rights,
+            area,
+            n,
+            limit,
+            bound,
+            x,
+            typed,
+        );
     }
-    token_pair::join_before(file, places, lefts, rights, area, n, bound, typed, x)
+    token_pair::join_before(file, places, lefts, rights, area, n, limit, bound, typed, x)
 }
 
 // The lowest row that joins `typed` and what `code` has at that end by then, or NONE.

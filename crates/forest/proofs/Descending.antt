@@ -82,32 +82,3 @@ module _ (R : ℕ → List ℕ) (n : ℕ) (half : List ℕ) (from len : ℕ) (te
 
   pub descend-end : (best size k : ℕ) → k ≤ length text → Descending R n half from len text best size k → length text ≤ k → Descent R n half from len text best size
   descend-end best size k hk D l = descend-stop best size k (drop k text) none 0 hk D (search-empty R n half best size (drop k text) 0 (omega (arith, length-drop k text))) refl refl
-
-  -- the first step apart: there is no child, or the descent goes on from it
-  pub descend-none : (r l : ℕ) → ChildIs R n half from len text r l → r ≡ none → Descent R n half from len text from len
-  descend-none r l h z = descend-stop from len 0 text r l (omega arith) descend-start h refl z
-
-  pub record First (r l : ℕ) : Type 0 where
-    pub longer : len < l
-    pub room : l - len ≤ length text
-
-  module _ (r l : ℕ) (h : ChildIs R n half from len text r l) (ne : r ≡ none → ⊥) where
-    first-turn : Turn from len 0 r l
-    first-turn = turn from len 0 text r l (omega arith) descend-start h refl ne
-
-    pub descend-first : First r l
-    descend-first = let s = first-turn .step in record { longer = s .longer; room = omega (arith, s .longer, s .fits) }
-
-    pub descend-on : (rest : List ℕ) (r' l' : ℕ) → rest ≡ drop (l - len) text → Descent R n half r l rest r' l' → Descent R n half from len text r' l'
-    descend-on rest r' l' e D' =
-        let D : Descent R n half r l (drop (l - len) text) r' l' = rw e at D' in
-        let s = first-turn .step in
-        record {
-          bound = ⊎-elim (λ z. inr (omega (arith, z .0, s .below), omega (arith, z .1, s .longer))) (λ z. inr (z .0, omega (arith, z .1, s .longer))) (D .bound);
-          room = omega (arith, D .room, s .longer, s .fits, length-drop (l - len) text);
-          longest = λ S a.
-              let q = first-turn .gone .reached S a in
-              let k : 0 + (l - len) ≡ l - len = omega arith in
-              let sp : R from ++ text ≡ R r ++ drop (l - len) text = rw k at (q .split) in
-              rw sp (D .longest S (record { index = a .index; known = q .known; size = q .sized }));
-        }

@@ -1,14 +1,14 @@
 -- A mark more keeps the half in order. Assumes nothing.
-use mathlib.Core.Path.{_≡_, refl, sym, ap, _∙_}
+use mathlib.Core.Path.{_≡_, refl, ap, _∙_}
 use mathlib.Core.List.{List, _∷_}
 use mathlib.Core.Bool.{Bool, true, false}
-use Prim.Native.Nat.{ℕ, zero, suc, _+_, _/_, _%_, _≤_, _<_}
+use Prim.Native.Nat.{ℕ, zero, suc, _+_, _/_, _%_, _<_}
 use native.Mathlib.Omega.{arith}
 use lib.ListN.{length, getD, length-set}
 use lib.Seq.{getD-set-other}
 use lib.Dec.{ltb}
 use Rattle.marks.specs.Marks.{Marks}
-use Rattle.forest.specs.Words.{walk, Mem, In, count, byteOf, home, wordOf, Indexed, childKey, marksFrom}
+use Rattle.forest.specs.Words.{walk, count, byteOf, home, Indexed, childKey, marksFrom}
 use Rattle.forest.proofs.Packing.{bucket-small}
 
 module _ (half : List ℕ) (k : ℕ) (half' : List ℕ) (m : Marks half marksFrom k half') where

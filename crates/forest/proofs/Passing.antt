@@ -1,4 +1,4 @@
--- The walks in a half in which the word w of row c was put at place a: they meet what they met, and w. Assumes nothing.
+-- The walks in a front half in which the word w of row c was put at place a: they meet what they met, and w. Assumes nothing.
 use mathlib.Core.Path.{_≡_, refl, ap, _∙_}
 use mathlib.Core.List.{List}
 use mathlib.Core.Logic.{_⊎_, inl, inr, ⊎-elim}

@@ -1,4 +1,4 @@
--- What a lookup in one half answers: on any contents a bounded answer, and where the half lists the rows of a set S, the true one. Assumes nothing.
+-- What a lookup in the front half answers: on any contents a bounded answer, and where the half lists the rows of a set S, the true one. Assumes nothing.
 use mathlib.Core.Path.{_≡_}
 use mathlib.Core.List.{List, _++_}
 use mathlib.Core.Logic.{_⊎_}

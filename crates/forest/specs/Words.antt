@@ -1,4 +1,4 @@
--- The arrangement of one half of the search area: 2,560 heads of buckets, then 1,024 numbers of marks, then 4,096 links. A bucket has the rows of one
+-- The arrangement of the front half of the search area: 2,560 heads of buckets, then 1,024 numbers of marks, then 4,096 links. A bucket has the rows of one
 -- hash of prefix and next byte. A head or a link holds a word, which packs a row, its prefix and its length, or
 -- none. A prefix and a next byte that are not marked have no row. Assumes nothing.
 use mathlib.Core.Path.{_≡_}
@@ -7,7 +7,7 @@ use mathlib.Core.Logic.{_⊎_}
 use mathlib.Core.Bool.{Bool, true, false}
 use Prim.Native.Nat.{ℕ, zero, suc, _+_, _-_, _*_, _/_, _%_, _≤_, _<_}
 use lib.ListN.{length, getD}
-use lib.Dec.{ltb, eqb}
+use lib.Dec.{ltb}
 use Rattle.marks.specs.Marks.{marked}
 use Rattle.placed_rows.specs.Rows.{none}
 use Rattle.placed_rows.specs.Longest.{Prefix}

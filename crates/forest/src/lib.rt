@@ -1,11 +1,11 @@
-// One half of the search area: the rows of a phrase file, read from the front or from the back, as a forest under "next shorter prefix".
+// The front half of the search area: the rows of a phrase file as a forest under "next shorter prefix".
 ghost use mathlib.Core.Path.{_≡_};
 ghost use mathlib.Core.List.{List};
 ghost use mathlib.Core.Bool.{true, false};
 ghost use Prim.Native.Nat.{ℕ, _%_, _<_, _≤_};
 ghost use lib.ListN.{length};
 ghost use Rattle.placed_rows.specs.Rows.{none, row, Placed};
-ghost use Rattle.placed_rows.specs.Texts.{facing, rowFacing, Small};
+ghost use Rattle.placed_rows.specs.Texts.{Small};
 ghost use Rattle.marks.specs.Marks.{marked};
 ghost use Rattle.forest.specs.Words.{word, row-of, len-of, bucketOf, childKey, marksFrom};
 ghost use Rattle.forest.specs.Lookups.{Fits, OneByte, OneLonger, ChildIs, Descent};
@@ -67,19 +67,10 @@ fn may_have_child(half: &[u32], p: u32, b: u8) -> bool
 }
 
 // Is w the word of a row whose prefix is p, of len bytes, and that goes on as rest does?
-fn fits(
-    file: &[u8],
-    places: &[u32],
-    n: usize,
-    w: u32,
-    p: u32,
-    len: usize,
-    rest: &[u8],
-    back: bool,
-) -> bool
+fn fits(file: &[u8], places: &[u32], n: usize, w: u32, p: u32, len: usize, rest: &[u8]) -> bool
     requires { ⌜ Placed (now file) (now places) n ⌝ }
     requires { ⌜ (w % 8192 < n) × (0 < length (now rest)) ⌝ }
-    ensures { λ r. ⌜ Fits (rowFacing back (now (file .entry)) (now (places .entry)) n) n p len (facing back (now (rest .entry))) w r ⌝ }
+    ensures { λ r. ⌜ Fits (row (now (file .entry)) (now (places .entry)) n) n p len (now (rest .entry)) w r ⌝ }
 {
     if w / 8192 % 8192 != p % 8192 {
         return false;
@@ -95,7 +86,7 @@ fn fits(
     if bytes.len() != l {
         return false;
     }
-    placed_rows::begins_facing(placed_rows::beyond(bytes, len, back), rest, back)
+    placed_rows::begins_with(&bytes[len..], rest)
 }
 
 // Is w the word of a row whose prefix is p, and that is one byte longer than p, of len bytes?
@@ -120,13 +111,12 @@ fn listed_child(
     p: u32,
     len: usize,
     rest: &[u8],
-    back: bool,
 ) -> Match
     requires { ⌜ Placed (now file) (now places) n ⌝ }
     requires { ⌜ (7680 ≤ length (now half)) × (0 < length (now rest)) ⌝ }
-    ensures { λ r. ⌜ ChildIs (rowFacing back (now (file .entry)) (now (places .entry)) n) n (now (half .entry)) p len (facing back (now (rest .entry))) (r .row) (r .len) ⌝ }
+    ensures { λ r. ⌜ ChildIs (row (now (file .entry)) (now (places .entry)) n) n (now (half .entry)) p len (now (rest .entry)) (r .row) (r .len) ⌝ }
 {
-    let next = placed_rows::first(rest, back);
+    let next = rest[0];
     let mut w = half[bucket(p, next)];
     let mut left = n;
     while left > 0 {
@@ -134,7 +124,7 @@ fn listed_child(
         if n <= i {
             return no_match();
         }
-        if fits(file, places, n, w, p, len, rest, back) {
+        if fits(file, places, n, w, p, len, rest) {
             return Match {
                 row: w % 8192,
                 len: len_of(w),
@@ -155,16 +145,15 @@ pub fn child(
     p: u32,
     len: usize,
     rest: &[u8],
-    back: bool,
 ) -> Match
     requires { ⌜ Placed (now file) (now places) n ⌝ }
     requires { ⌜ 7680 ≤ length (now half) ⌝ }
-    ensures { λ r. ⌜ ChildIs (rowFacing back (now (file .entry)) (now (places .entry)) n) n (now (half .entry)) p len (facing back (now (rest .entry))) (r .row) (r .len) ⌝ }
+    ensures { λ r. ⌜ ChildIs (row (now (file .entry)) (now (places .entry)) n) n (now (half .entry)) p len (now (rest .entry)) (r .row) (r .len) ⌝ }
 {
     if rest.len() == 0 {
         return no_match();
     }
-    let next = placed_rows::first(rest, back);
+    let next = rest[0];
     let w = half[bucket(p, next)];
     if is_one_longer(n, w, p, len) {
         return Match {
@@ -173,7 +162,7 @@ pub fn child(
         };
     }
     if may_have_child(half, p, next) {
-        return listed_child(file, places, n, half, p, len, rest, back);
+        return listed_child(file, places, n, half, p, len, rest);
     }
     no_match()
 }
@@ -187,17 +176,29 @@ pub fn descend(
     from: u32,
     len: usize,
     text: &[u8],
-    back: bool,
 ) -> Match
     requires { ⌜ Placed (now file) (now places) n ⌝ }
     requires { ⌜ 7680 ≤ length (now half) ⌝ }
-    ensures { λ r. ⌜ Descent (rowFacing back (now (file .entry)) (now (places .entry)) n) n (now (half .entry)) from len (facing back (now (text .entry))) (r .row) (r .len) ⌝ }
+    ensures { λ r. ⌜ Descent (row (now (file .entry)) (now (places .entry)) n) n (now (half .entry)) from len (now (text .entry)) (r .row) (r .len) ⌝ }
 {
     let mut best = from;
     let mut size = len;
     while size - len < text.len() {
-        let rest = placed_rows::beyond(text, size - len, back);
-        let m = child(file, places, n, half, best, size, rest, back);
+        let rest = &text[size - len..];
+        let next = rest[0];
+        let w = half[bucket(best, next)];
+        if is_one_longer(n, w, best, size) {
+            best = w % 8192;
+            size += 1;
+            continue;
+        }
+        if !may_have_child(half, best, next) {
+            return Match {
+                row: best,
+                len: size,
+            };
+        }
+        let m = listed_child(file, places, n, half, best, size, rest);
         let r = m.row;
         if r == NONE {
             return Match {
@@ -215,14 +216,14 @@ pub fn descend(
 }
 
 // The one-byte row of the first byte of text, with its length: the root's child, found by one load. NONE where its bucket has another row first.
-fn one_byte_row(half: &[u32], n: usize, text: &[u8], back: bool) -> Match
+fn one_byte_row(half: &[u32], n: usize, text: &[u8]) -> Match
     requires { ⌜ (n ≤ 4096) × (7680 ≤ length (now half)) ⌝ }
-    ensures { λ r. ⌜ ((R : ℕ → List ℕ) → OneByte R n (now (half .entry)) (facing back (now (text .entry))) (r .row) (r .len)) ⌝ }
+    ensures { λ r. ⌜ ((R : ℕ → List ℕ) → OneByte R n (now (half .entry)) (now (text .entry)) (r .row) (r .len)) ⌝ }
 {
     if text.len() == 0 {
         return no_match();
     }
-    let w = half[bucket(NONE, placed_rows::first(text, back))];
+    let w = half[bucket(NONE, text[0])];
     if is_one_longer(n, w, NONE, 0) {
         return Match {
             row: w % 8192,
@@ -233,49 +234,28 @@ fn one_byte_row(half: &[u32], n: usize, text: &[u8], back: bool) -> Match
 }
 
 // The root's child that begins text, or NONE.
-pub fn root_child(
-    file: &[u8],
-    places: &[u32],
-    n: usize,
-    half: &[u32],
-    text: &[u8],
-    back: bool,
-) -> Match
+pub fn root_child(file: &[u8], places: &[u32], n: usize, half: &[u32], text: &[u8]) -> Match
     requires { ⌜ Placed (now file) (now places) n ⌝ }
     requires { ⌜ 7680 ≤ length (now half) ⌝ }
-    ensures { λ r. ⌜ ChildIs (rowFacing back (now (file .entry)) (now (places .entry)) n) n (now (half .entry)) none 0 (facing back (now (text .entry))) (r .row) (r .len) ⌝ }
+    ensures { λ r. ⌜ ChildIs (row (now (file .entry)) (now (places .entry)) n) n (now (half .entry)) none 0 (now (text .entry)) (r .row) (r .len) ⌝ }
 {
-    let first = one_byte_row(half, n, text, back);
+    let first = one_byte_row(half, n, text);
     if first.row != NONE {
         return first;
     }
     if text.len() > 0 {
-        return listed_child(file, places, n, half, NONE, 0, text, back);
+        return listed_child(file, places, n, half, NONE, 0, text);
     }
     no_match()
 }
 
 // The longest row that begins text, with its length, or NONE and 0.
-pub fn longest(
-    file: &[u8],
-    places: &[u32],
-    n: usize,
-    half: &[u32],
-    text: &[u8],
-    back: bool,
-) -> Match
+pub fn longest(file: &[u8], places: &[u32], n: usize, half: &[u32], text: &[u8]) -> Match
     requires { ⌜ Placed (now file) (now places) n ⌝ }
     requires { ⌜ 7680 ≤ length (now half) ⌝ }
-    ensures { λ r. ⌜ Descent (rowFacing back (now (file .entry)) (now (places .entry)) n) n (now (half .entry)) none 0 (facing back (now (text .entry))) (r .row) (r .len) ⌝ }
+    ensures { λ r. ⌜ Descent (row (now (file .entry)) (now (places .entry)) n) n (now (half .entry)) none 0 (now (text .entry)) (r .row) (r .len) ⌝ }
 {
-    let first = root_child(file, places, n, half, text, back);
-    let r = first.row;
-    if r == NONE {
-        return Match { row: NONE, len: 0 };
-    }
-    let size = first.len;
-    let rest = placed_rows::beyond(text, size, back);
-    descend(file, places, n, half, r, size, rest, back)
+    descend(file, places, n, half, NONE, 0, text)
 }
 
 // Where a word comes into bucket h: at its head where the bucket is empty, else at the link of its first word.
@@ -301,17 +281,17 @@ fn push(half: &mut [u32], n: usize, h: usize, c: usize, w: u32)
 }
 
 // Row c goes into the half, under the longest row in it that begins row c.
-pub fn insert(file: &[u8], places: &[u32], n: usize, half: &mut [u32], c: usize, back: bool)
+pub fn insert(file: &[u8], places: &[u32], n: usize, half: &mut [u32], c: usize)
     requires { ⌜ Placed (now file) (now places) n ⌝ }
     requires { ⌜ (7680 ≤ length (now half)) × ((c < n) × (length (row (now file) (now places) n c) ≤ 64)) ⌝ }
-    ensures { λ r. ⌜ Inserted (rowFacing back (now (file .entry)) (now (places .entry)) n) n (now (half .entry)) c (now (half .exit)) ⌝ }
+    ensures { λ r. ⌜ Inserted (row (now (file .entry)) (now (places .entry)) n) n (now (half .entry)) c (now (half .exit)) ⌝ }
 {
     let bytes = placed_rows::bytes_of(file, places, n, c);
-    let m = longest(file, places, n, half, bytes, back);
+    let m = longest(file, places, n, half, bytes);
     let p = m.row;
     let k = m.len;
     if k < bytes.len() {
-        let next = placed_rows::first(placed_rows::beyond(bytes, k, back), back);
+        let next = bytes[k];
         let h = bucket(p, next);
         marks::mark(half, MARKS, child_key(p, next));
         push(half, n, h, c, word_of(c, p, bytes.len()));

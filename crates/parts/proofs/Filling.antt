@@ -7,7 +7,7 @@ use mathlib.Core.Option as Option
 use Prim.Native.Nat.{ℕ, _+_, _-_, _≤_, _<_}
 use native.Mathlib.Decide.{decLt}
 use native.Mathlib.Omega.{arith}
-use lib.ListN.{length, length-set, getD, set, drop}
+use lib.ListN.{length, length-set, getD, drop}
 use lib.Seq.{getD-set-same, getD-set-other, drop-set-lt}
 use Rattle.theory.proofs.Accepted.{parts-at}
 use Rattle.phrase_file.specs.Form.{rows}
@@ -99,6 +99,7 @@ module _ (file places lefts₀ rights₀ prefixes area₀ : List ℕ) (n : ℕ) 
 
       pub filling-writes : WriteFit lefts rights area w
       filling-writes = record {
+        row = omega (arith, T .rows-found .places-ready .placed .few);
         left-room = omega (arith, F .lefts-length, T .left-room);
         right-room = omega (arith, F .rights-length, T .right-room);
         area-room = omega (arith, F .area-kept .area-length, T .rows-found .area-room);

@@ -3,12 +3,13 @@ ghost use mathlib.Core.Path.{_≡_};
 ghost use Prim.Native.Nat.{_≤_, _<_};
 ghost use lib.ListN.{length};
 ghost use Rattle.parts.specs.Parts.{Looking, Beginner, RightPart, PrefixesFound, PartsFound, PartsFit, PartsFilled};
-ghost use Rattle.parts.specs.Marking.{PairsEmptied, WriteFit, PartsWritten};
+ghost use Rattle.parts.specs.Marking.{PairsEmptied, Named, WriteFit, PartsWritten};
 use placed_rows::NONE;
 use placed_rows::wide;
+use token_pair::HINTS;
 use token_pair::PAIRS;
 
-// The end of the marks of pairs in the search area.
+// The end of the hints and of the marks of pairs in the search area.
 const PAIRS_END: usize = 16384;
 
 // The left and the right part of a row, or NONE twice.
@@ -83,19 +84,30 @@ fn find_parts(
     }
 }
 
-// The marks of pairs become NONE: no pair is marked.
+// The hints and the marks of pairs become NONE: no row is named, and no pair is marked.
 fn empty_pairs(area: &mut [u32])
     requires { ⌜ 16384 ≤ length (now area) ⌝ }
     ensures { λ _. ⌜ PairsEmptied (now (area .entry)) (now (area .exit)) ⌝ }
 {
-    let mut i = PAIRS;
+    let mut i = HINTS;
     while i < PAIRS_END {
         area[i] = NONE;
         i += 1;
     }
 }
 
-// Writes the parts of row w into the tables, and marks the two where the row is a longer one.
+// Names row w as the one that has the two as its parts, unless another row is named at that place.
+fn name_row(area: &mut [u32], w: usize, left: u32, right: u32)
+    requires { ⌜ (w < 4294967296) × (16384 ≤ length (now area)) ⌝ }
+    ensures { λ _. ⌜ Named (now (area .entry)) (now (area .exit)) ⌝ }
+{
+    let at = token_pair::hint_place(left, right);
+    if area[at] == NONE {
+        area[at] = w as u32;
+    }
+}
+
+// Writes the parts of row w into the tables; where the row is a longer one, it is named for the two, and they are marked.
 fn write_parts(
     lefts: &mut [u32],
     rights: &mut [u32],
@@ -112,6 +124,7 @@ fn write_parts(
     if w <= wide(left) {
         return;
     }
+    name_row(area, w, left, right);
     marks::mark(area, PAIRS, token_pair::pair_key(left, right));
 }
 

@@ -1,16 +1,12 @@
 -- Laws of the rows that are read through the table of places. Assumes nothing.
 use mathlib.Core.Path.{_≡_, sym, ap, _∙_}
 use mathlib.Core.List.{List, []}
-use mathlib.Core.Bool.{Bool}
 use Prim.Native.Nat.{ℕ, _+_, _-_, _≤_, _<_}
 use native.Mathlib.Omega.{arith}
 use lib.ListN.{length, length-drop, getD, take, drop}
 use lib.Seq.{length-take-le}
 use borrow.Author.Tests.{lt-ltb, le-ltb}
-use Rattle.placed_rows.specs.Rows.{none, row, Placed}
-use Rattle.placed_rows.specs.Texts.{rowFacing}
-use Rattle.placed_rows.proofs.Beginning.{empty}
-use Rattle.placed_rows.proofs.Facing.{rowFacing-length}
+use Rattle.placed_rows.specs.Rows.{row, Placed}
 
 module _ (file places : List ℕ) (n c : ℕ) where
   pub row-none : n ≤ c → row file places n c ≡ []
@@ -33,7 +29,3 @@ module _ (file places : List ℕ) (n c : ℕ) where
       let y : at + 3 - 1 ≡ at + 2 = omega arith in
       let k : l ≡ getD file (getD places c 0 + 2) 0 = f ∙ ap (λ (j : ℕ). getD file j 0) y ∙ ap (λ (j : ℕ). getD file (j + 2) 0) e in
       rw (z, k, e) (sym (row-is h))
-
--- none has no bytes
-pub none-row : (back : Bool) (file places : List ℕ) (n : ℕ) → n ≤ 4096 → rowFacing back file places n none ≡ []
-none-row back file places n N = empty (rowFacing back file places n none) (rowFacing-length back file places n none ∙ ap length (row-none file places n none (omega arith)))

@@ -4,7 +4,6 @@ use mathlib.Core.List.{List, [], _∷_, _++_, reverse}
 use mathlib.Core.Bool.{Bool, true, false, _&&_}
 use Prim.Native.Nat.{ℕ, _<_}
 use lib.Dec.{eqb}
-use Rattle.placed_rows.specs.Rows.{row}
 
 -- p begins t
 pub record Begins (p t : List ℕ) : Type 0 where
@@ -26,10 +25,6 @@ begins (x ∷ p) (y ∷ t) = eqb x y && begins p t
 unfoldable pub facing : Bool → List ℕ → List ℕ
 facing false t = t
 facing true t = reverse t
-
--- the bytes of row c, read so
-unfoldable pub rowFacing : Bool → List ℕ → List ℕ → ℕ → ℕ → List ℕ
-rowFacing back file places n c = facing back (row file places n c)
 
 -- r is x, and below b
 pub record Small (x b r : ℕ) : Type 0 where

@@ -1,7 +1,7 @@
 // The rows of a phrase file, read through the table of places, and texts read from the front or from the back.
 ghost use mathlib.Core.Path.{_≡_};
-ghost use Prim.Native.Nat.{ℕ, _<_, _≤_};
-ghost use lib.ListN.{length, getD, drop};
+ghost use Prim.Native.Nat.{ℕ, _<_};
+ghost use lib.ListN.{length};
 ghost use Rattle.placed_rows.specs.Rows.{row, Placed};
 ghost use Rattle.placed_rows.specs.Texts.{begins, facing, Small};
 
@@ -49,28 +49,8 @@ pub fn bytes_of<'a>(file: &'a [u8], places: &[u32], n: usize, c: usize) -> &'a [
     &file[from..end]
 }
 
-// The first byte of t, read from the front or from the back.
-pub fn first(t: &[u8], back: bool) -> u8
-    requires { ⌜ 0 < length (now t) ⌝ }
-    ensures { λ r. ⌜ Small (getD (facing back (now (t .entry))) 0 0) 256 r ⌝ }
-{
-    if back { t[t.len() - 1] } else { t[0] }
-}
-
-// What is left of t beyond its first k bytes, read from the front or from the back.
-pub fn beyond(t: &[u8], k: usize, back: bool) -> &[u8]
-    requires { ⌜ k ≤ length (now t) ⌝ }
-    ensures { λ r. ⌜ facing back (now r) ≡ drop k (facing back (now (t .entry))) ⌝ }
-{
-    if !back {
-        return &t[k..];
-    }
-    let end = t.len() - k;
-    &t[..end]
-}
-
 // Does p begin t?
-fn begins_with(p: &[u8], t: &[u8]) -> bool
+pub fn begins_with(p: &[u8], t: &[u8]) -> bool
     ensures { λ r. ⌜ r ≡ begins (now (p .entry)) (now (t .entry)) ⌝ }
 {
     if t.len() < p.len() {

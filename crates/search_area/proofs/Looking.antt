@@ -1,14 +1,14 @@
 -- From the descent in the front half to the lookups' answers. Assumes nothing.
 use mathlib.Core.Path.{_≡_, refl, sym, ap, _∙_}
 use mathlib.Core.List.{List, _++_}
-use mathlib.Core.Logic.{_⊎_, inl, inr, ⊎-elim}
-use mathlib.Core.Bool.{Bool, false}
+use mathlib.Core.Logic.{inl, inr, ⊎-elim}
+use mathlib.Core.Bool.{Bool}
 use Prim.Native.Nat.{ℕ, _+_, _<_}
 use native.Mathlib.Omega.{arith}
 use lib.ListN.{length, length-append}
 use borrow.Author.Tests.{lt-ltb, ltb-true}
 use Rattle.placed_rows.specs.Rows.{none, row}
-use Rattle.placed_rows.specs.Texts.{Begins, facing, rowFacing}
+use Rattle.placed_rows.specs.Texts.{Begins}
 use Rattle.placed_rows.specs.Longest.{Below, Known, Longest}
 use Rattle.placed_rows.proofs.Beginning.{begins-length, same-length, whole}
 use Rattle.forest.specs.Words.{In, Indexed}
@@ -17,35 +17,26 @@ use Rattle.forest.proofs.NoChild.{filled}
 use Rattle.search_area.specs.Area.{frontHalf, allRows, Finds}
 use Rattle.search_area.specs.Answers.{NextMatch, RowIs, Found}
 
--- from the front, rows and texts are read as they stand
-pub front-text : (t : List ℕ) → facing false t ≡ t
-unfolding facing
-front-text t = refl
-
-pub front-rows : (file places : List ℕ) (n : ℕ) → rowFacing false file places n ≡ row file places n
-unfolding rowFacing
-front-rows file places n = λ i c. front-text (row file places n c) i
-
 pub front-index : (file places : List ℕ) (n : ℕ) (area : List ℕ) → Finds file places n area → Indexed (row file places n) n (frontHalf area) (allRows n)
 unfolding Finds
-front-index file places n area F = rw (front-rows file places n) at (F .front)
+front-index file places n area F = F
 
 -- the rows of the index are the rows below n
 pub below-in : (n d : ℕ) → d < n → In (allRows n) d
 below-in n d h = lt-ltb d n h
 
-pub in-below : (n d : ℕ) → In (allRows n) d → d < n
+in-below : (n d : ℕ) → In (allRows n) d → d < n
 in-below n d s = ltb-true d n s
 
-pub known-below : (n d : ℕ) → Known (In (allRows n)) d → Known (Below n) d
+known-below : (n d : ℕ) → Known (In (allRows n)) d → Known (Below n) d
 known-below n d (inl e) = inl e
 known-below n d (inr s) = inr (in-below n d s)
 
 -- none is where a descent starts
-abbrev pub at-none : (R : ℕ → List ℕ) (n : ℕ) (half : List ℕ) (S : ℕ → Bool) → Indexed R n half S → At R n half S none 0
+abbrev at-none : (R : ℕ → List ℕ) (n : ℕ) (half : List ℕ) (S : ℕ → Bool) → Indexed R n half S → At R n half S none 0
 at-none R n half S I = record { index = I; known = inl refl; size = sym (ap length (I .forest .root)) }
 
-pub longest-below : (R : ℕ → List ℕ) (n : ℕ) (t : List ℕ) (r : ℕ) → Longest R (In (allRows n)) t r → Longest R (Below n) t r
+longest-below : (R : ℕ → List ℕ) (n : ℕ) (t : List ℕ) (r : ℕ) → Longest R (In (allRows n)) t r → Longest R (Below n) t r
 longest-below R n t r L = record {
   known = known-below n r (L .known);
   begins = L .begins;
@@ -86,15 +77,10 @@ module _ (file places : List ℕ) (n : ℕ) (area : List ℕ) where
   R = row file places n
 
   abbrev D : ℕ → ℕ → List ℕ → ℕ → ℕ → Type 0
-  D from len t r l = Descent (rowFacing false file places n) n (frontHalf area) from len (facing false t) r l
-
-  -- as the code has it
-  plain : (from len : ℕ) (t : List ℕ) (r l : ℕ) → D from len t r l → Descent R n (frontHalf area) from len t r l
-  plain from len t r l d = rw (front-rows file places n, front-text t) at d
+  D from len t r l = Descent R n (frontHalf area) from len t r l
 
   pub next-match : (t u : List ℕ) (r l : ℕ) → D none 0 t r l → t ≡ u → NextMatch file places n area u r l
-  next-match t u r l d' e =
-      let d = plain none 0 t r l d' in
+  next-match t u r l d e =
       rw (← e) (record {
         bound = d .bound;
         room = let z = d .room in omega arith;
@@ -103,27 +89,20 @@ module _ (file places : List ℕ) (n : ℕ) (area : List ℕ) where
       })
 
   pub find-hit : (t : List ℕ) (r l : ℕ) → D none 0 t r l → l ≡ length t → Found file places n area t r
-  find-hit t r l d' h =
-      let d = plain none 0 t r l d' in
-      record {
-        bound = ⊎-elim (λ z. inl (z .0)) (λ z. inr (z .0)) (d .bound);
-        found = λ F. let I = front-index file places n area F in
-            found-hit R n (frontHalf area) none 0 t t r l d (rw (I .forest .root)) (at-none R n (frontHalf area) (allRows n) I) (omega arith);
-      }
+  find-hit t r l d h = record {
+    bound = ⊎-elim (λ z. inl (z .0)) (λ z. inr (z .0)) (d .bound);
+    found = λ F. let I = front-index file places n area F in
+        found-hit R n (frontHalf area) none 0 t t r l d (rw (I .forest .root)) (at-none R n (frontHalf area) (allRows n) I) (omega arith);
+  }
 
   pub find-miss : (t : List ℕ) (r l : ℕ) → D none 0 t r l → (l ≡ length t → ⊥) → Found file places n area t none
-  find-miss t r l d' h =
-      let d = plain none 0 t r l d' in
-      record {
-        bound = inl refl;
-        found = λ F. let I = front-index file places n area F in
-            found-miss R n (frontHalf area) none 0 t t r l d (rw (I .forest .root)) (at-none R n (frontHalf area) (allRows n) I) (λ z. h (omega arith));
-      }
+  find-miss t r l d h = record {
+    bound = inl refl;
+    found = λ F. let I = front-index file places n area F in
+        found-miss R n (frontHalf area) none 0 t t r l d (rw (I .forest .root)) (at-none R n (frontHalf area) (allRows n) I) (λ z. h (omega arith));
+  }
 
-  module _ (x y len : ℕ) (t : List ℕ) (r l : ℕ) (d' : D x len t r l) (X : x < n) (e : t ≡ R y) (k : len ≡ length (R x)) where
-    d : Descent R n (frontHalf area) x len t r l
-    d = plain x len t r l d'
-
+  module _ (x y len : ℕ) (t : List ℕ) (r l : ℕ) (d : D x len t r l) (X : x < n) (e : t ≡ R y) (k : len ≡ length (R x)) where
     at-x : (I : Indexed R n (frontHalf area) (allRows n)) → At R n (frontHalf area) (allRows n) x len
     at-x I = record { index = I; known = inr (below-in n x X); size = k }
 

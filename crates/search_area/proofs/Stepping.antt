@@ -2,13 +2,12 @@
 use mathlib.Core.Path.{_≡_, sym, ap, _∙_}
 use mathlib.Core.List.{List, _++_}
 use mathlib.Core.Logic.{inl, inr, ⊎-elim}
-use mathlib.Core.Bool.{false}
 use Prim.Native.Nat.{ℕ, _≤_, _<_}
 use native.Mathlib.Decide.{decLt}
 use native.Mathlib.Omega.{arith}
 use lib.ListN.{length, length-drop, drop}
 use Rattle.placed_rows.specs.Rows.{none, row}
-use Rattle.placed_rows.specs.Texts.{Begins, facing, rowFacing}
+use Rattle.placed_rows.specs.Texts.{Begins}
 use Rattle.placed_rows.specs.Longest.{Known, Longest}
 use Rattle.placed_rows.proofs.Beginning.{beyond, both}
 use Rattle.placed_rows.proofs.Chains.{other}
@@ -17,7 +16,7 @@ use Rattle.forest.specs.Lookups.{Child, At, ChildIs}
 use Rattle.forest.proofs.NoChild.{no-child}
 use Rattle.search_area.specs.Area.{frontHalf, allRows}
 use Rattle.search_area.specs.Answers.{Reached, Longer, LongerMatch}
-use Rattle.search_area.proofs.Looking.{front-text, front-rows, front-index, below-in}
+use Rattle.search_area.proofs.Looking.{front-index, below-in}
 
 module _ (R : ℕ → List ℕ) (n : ℕ) (half t : List ℕ) (p len r l : ℕ) (C : ChildIs R n half p len (drop len t) r l) (I : Indexed R n half (allRows n)) (Q : Reached R n t p len) where
   here : Known (In (allRows n)) p
@@ -63,9 +62,9 @@ module _ (R : ℕ → List ℕ) (n : ℕ) (half t : List ℕ) (p len r l : ℕ) 
 
 -- the contract, as the code has it
 pub longer-match : (file places : List ℕ) (n : ℕ) (area t rest : List ℕ) (p len r l : ℕ) → len ≤ length t → rest ≡ drop len t
-    → ChildIs (rowFacing false file places n) n (frontHalf area) p len (facing false rest) r l → LongerMatch file places n area t p len r l
+    → ChildIs (row file places n) n (frontHalf area) p len rest r l → LongerMatch file places n area t p len r l
 longer-match file places n area t rest p len r l h e C' =
-    let C : ChildIs (row file places n) n (frontHalf area) p len (drop len t) r l = rw (front-rows file places n, front-text rest, e) at C' in
+    let C : ChildIs (row file places n) n (frontHalf area) p len (drop len t) r l = rw e at C' in
     record {
       bound = ⊎-elim inl
           (λ s. let f = s .fits in inr (record { below = s .below; longer = s .longer; room = omega (arith, length-drop len t); short = s .short }))

@@ -1,22 +1,18 @@
--- The search area, of 16,384 numbers: one half for the rows read from the front, one for the rows read from the back. Assumes nothing.
+-- The search area, of 16,384 numbers: its first 7,680 list the rows; the others are hints and marks of pairs (crate token_pair). Assumes nothing.
 use mathlib.Core.List.{List}
-use mathlib.Core.Bool.{Bool, true, false}
+use mathlib.Core.Bool.{Bool}
 use Prim.Native.Nat.{ℕ}
-use lib.ListN.{take, drop}
+use lib.ListN.{take}
 use lib.Dec.{ltb}
-use Rattle.placed_rows.specs.Texts.{rowFacing}
+use Rattle.placed_rows.specs.Rows.{row}
 use Rattle.forest.specs.Words.{Indexed}
 
 abbrev pub frontHalf : List ℕ → List ℕ
 frontHalf area = take 7680 area
 
-abbrev pub backHalf : List ℕ → List ℕ
-backHalf area = take 7680 (drop 7680 area)
-
--- both halves list the rows of S
-pub record Holds (file places : List ℕ) (n : ℕ) (area : List ℕ) (S : ℕ → Bool) : Type 0 where
-  pub front : Indexed (rowFacing false file places n) n (frontHalf area) S
-  pub back : Indexed (rowFacing true file places n) n (backHalf area) S
+-- the front half lists the rows of S
+abbrev pub Holds : List ℕ → List ℕ → ℕ → List ℕ → (ℕ → Bool) → Type 0
+Holds file places n area S = Indexed (row file places n) n (frontHalf area) S
 
 -- all rows
 abbrev pub allRows : ℕ → ℕ → Bool

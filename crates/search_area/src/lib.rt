@@ -4,7 +4,6 @@ ghost use Prim.Native.Nat.{ℕ, _+_, _<_, _≤_};
 ghost use lib.ListN.{length, drop};
 ghost use Rattle.placed_rows.specs.Rows.{none, Placed};
 ghost use Rattle.search_area.specs.Answers.{NextMatch, LongerMatch, Found, Joined};
-ghost use Rattle.search_area.specs.Endings.{EndsAt};
 use placed_rows::Match;
 use placed_rows::NONE;
 
@@ -21,7 +20,7 @@ pub fn next_match(
     requires { ⌜ (16384 ≤ length (now area)) × (at ≤ length (now text)) ⌝ }
     ensures { λ r. ⌜ NextMatch (now (file .entry)) (now (places .entry)) n (now (area .entry)) (drop at (now (text .entry))) (r .row) (r .len) ⌝ }
 {
-    forest::longest(file, places, n, &area[..7680], &text[at..], false)
+    forest::longest(file, places, n, &area[..7680], &text[at..])
 }
 
 // The shortest row that begins the text from at on, with its length, or NONE.
@@ -37,7 +36,7 @@ pub fn first_match(
     requires { ⌜ (16384 ≤ length (now area)) × (at ≤ length (now text)) ⌝ }
     ensures { λ r. ⌜ LongerMatch (now (file .entry)) (now (places .entry)) n (now (area .entry)) (drop at (now (text .entry))) none 0 (r .row) (r .len) ⌝ }
 {
-    forest::root_child(file, places, n, &area[..7680], &text[at..], false)
+    forest::root_child(file, places, n, &area[..7680], &text[at..])
 }
 
 // The shortest row that begins the text from at on and is longer than row, of len bytes, which begins it too, with its length, or NONE.
@@ -55,16 +54,7 @@ pub fn longer_match(
     requires { ⌜ (16384 ≤ length (now area)) × (at + len ≤ length (now text)) ⌝ }
     ensures { λ r. ⌜ LongerMatch (now (file .entry)) (now (places .entry)) n (now (area .entry)) (drop at (now (text .entry))) row len (r .row) (r .len) ⌝ }
 {
-    forest::child(
-        file,
-        places,
-        n,
-        &area[..7680],
-        row,
-        len,
-        &text[at + len..],
-        false,
-    )
+    forest::child(file, places, n, &area[..7680], row, len, &text[at + len..])
 }
 
 // The row with these bytes, or NONE.
@@ -73,7 +63,7 @@ pub fn find(file: &[u8], places: &[u32], n: usize, area: &[u32], bytes: &[u8]) -
     requires { ⌜ 16384 ≤ length (now area) ⌝ }
     ensures { λ r. ⌜ Found (now (file .entry)) (now (places .entry)) n (now (area .entry)) (now (bytes .entry)) r ⌝ }
 {
-    let m = forest::longest(file, places, n, &area[..7680], bytes, false);
+    let m = forest::longest(file, places, n, &area[..7680], bytes);
     let r = m.row;
     let l = m.len;
     if l == bytes.len() { r } else { NONE }
@@ -87,37 +77,8 @@ pub fn join(file: &[u8], places: &[u32], n: usize, area: &[u32], x: u32, y: u32)
 {
     let a = placed_rows::length_of(file, places, n, placed_rows::wide(x));
     let bytes = placed_rows::bytes_of(file, places, n, placed_rows::wide(y));
-    let m = forest::descend(file, places, n, &area[..7680], x, a, bytes, false);
+    let m = forest::descend(file, places, n, &area[..7680], x, a, bytes);
     let r = m.row;
     let l = m.len;
     if l == a + bytes.len() { r } else { NONE }
-}
-
-// All rows that end the text, shortest first, into out, and how many.
-pub fn ends_at(
-    file: &[u8],
-    places: &[u32],
-    n: usize,
-    area: &[u32],
-    text: &[u8],
-    out: &mut [u32],
-) -> usize
-    requires { ⌜ Placed (now file) (now places) n ⌝ }
-    requires { ⌜ (16384 ≤ length (now area)) × (64 ≤ length (now out)) ⌝ }
-    ensures { λ r. ⌜ EndsAt (now (file .entry)) (now (places .entry)) n (now (area .entry)) (now (text .entry)) (now (out .entry)) (now (out .exit)) r ⌝ }
-{
-    let half = &area[7680..15360];
-    let first = forest::root_child(file, places, n, half, text, true);
-    let mut row = first.row;
-    let mut len = first.len;
-    let mut m = 0;
-    while row != NONE {
-        out[m] = row;
-        m += 1;
-        let rest = placed_rows::beyond(text, len, true);
-        let longer = forest::child(file, places, n, half, row, len, rest, true);
-        row = longer.row;
-        len = longer.len;
-    }
-    m
 }

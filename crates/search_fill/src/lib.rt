@@ -7,23 +7,21 @@ ghost use Rattle.search_fill.specs.Filled.{AreaFilled, PrefixesFilled, F
 ghost use Rattle.search_fill.specs.Steps.{emptied, RowIn, RowsIn, PrefixIs};
 use placed_rows::NONE;
 
-// Both halves are emptied.
+// The front half is emptied.
 fn empty(area: &mut [u32])
     requires { ⌜ 16384 ≤ length (now area) ⌝ }
     ensures { λ r. ⌜ now (area .exit) ≡ emptied (now (area .entry)) ⌝ }
 {
     forest::clear(&mut area[..7680]);
-    forest::clear(&mut area[7680..15360]);
 }
 
-// Row c goes into both halves.
+// Row c goes into the front half.
 fn add_row(file: &[u8], places: &[u32], n: usize, area: &mut [u32], c: usize)
     requires { ⌜ Placed (now file) (now places) n ⌝ }
     requires { ⌜ (16384 ≤ length (now area)) × ((c < n) × (length (row (now file) (now places) n c) ≤ 64)) ⌝ }
     ensures { λ r. ⌜ RowIn (now (file .entry)) (now (places .entry)) n (now (area .entry)) c (now (area .exit)) ⌝ }
 {
-    forest::insert(file, places, n, &mut area[..7680], c, false);
-    forest::insert(file, places, n, &mut area[7680..15360], c, true);
+    forest::insert(file, places, n, &mut area[..7680], c);
 }
 
 // All rows of len bytes go in.

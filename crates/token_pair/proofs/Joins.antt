@@ -1,12 +1,12 @@
 -- Whether two rows are the parts of a row: what the join of the two says, and what the marks of pairs say. Assumes nothing.
-use mathlib.Core.Path.{_≡_, refl, sym, ap, ap₂, _∙_}
+use mathlib.Core.Path.{_≡_, refl, sym, ap, ap₂, subst, _∙_}
 use mathlib.Core.Logic.{inl, inr}
 use mathlib.Core.List.{List, [], _++_}
 use mathlib.Core.Bool.{Bool, true, false}
 use Prim.Native.Nat.{ℕ, _≤_, _<_}
-use native.Mathlib.Decide.{ℕ-discrete}
+use native.Mathlib.Decide.{ℕ-discrete, decLt}
 use native.Mathlib.Omega.{arith}
-use lib.ListN.{length, length-append, getD}
+use lib.ListN.{length, getD}
 use borrow.Author.Tests.{lt-ltb, le-ltb, eq-eqb, ltb-true}
 use Rattle.theory.specs.Dictionary.{Dictionary}
 use Rattle.theory.specs.Paper.{listed}
@@ -19,8 +19,8 @@ use Rattle.placed_rows.specs.Rows.{none, row}
 use Rattle.search_area.specs.Area.{Finds}
 use Rattle.search_area.specs.Answers.{Found, RowIs}
 use Rattle.marks.specs.Marks.{marked}
-use Rattle.token_pair.specs.Pair.{Distinct, Tells, pairKey, PairsMarked, listedIn, PairReady, JoinIs}
-use Rattle.token_pair.proofs.Listing.{listed-facts, not-listed}
+use Rattle.token_pair.specs.Pair.{Distinct, Tells, pairKey, PairsMarked, rowBelow, listedIn, PairReady, JoinIs, IsJoined}
+use Rattle.token_pair.proofs.Listing.{Facts, listed-facts, not-listed}
 
 -- which rows are longer than a byte
 module _ (file lefts rights : List ℕ) (q : ℕ) (D : Dictionary) (T : Tells D file lefts rights q) (c : ℕ) (h : c < q) where
@@ -47,86 +47,120 @@ module _ (file places lefts rights area : List ℕ) (n q x y : ℕ) (R : PairRea
       let b : getD rights v 0 ≡ y = T .right v k ∙ sym (s .right) in
       true-false (sym (M v k (R .parts-ready .lower v k (longer file lefts rights q D T v k (s .long)) .left)) ∙ ap₂ (λ (i j : ℕ). marked area 15360 (pairKey i j)) a b ∙ e))
 
-  -- the join w of x and y, and whether it is listed with them below m
+  -- a row that the tables say to have them as its parts is listed with them
+  facts-listed : (c m : ℕ) → m ≤ q → Facts lefts rights c m x y → listed D c x y ≡ true
+  facts-listed c m hm f =
+      let h : c < q = omega (arith, f .below) in
+      rw (long file lefts rights q D T c h (size h (ℕ-discrete (length (getD (rows file) c [])) 1)), eq-eqb x (D .left c) (sym (f .left) ∙ T .left c h), eq-eqb y (D .right c) (sym (f .right) ∙ T .right c h))
+    where
+      size : c < q → Dec (length (getD (rows file) c []) ≡ 1) → 1 < length (getD (rows file) c [])
+      size h (yes e) = absurd (omega (arith, R .parts-ready .single c h e .0, f .left, f .longer))
+      size h (no e) = let g = R .few in let o = R .places-ready .filled c (omega arith) in omega arith
+
+  -- conversely
+  listed-facts-are : (v m : ℕ) → v < m → m ≤ q → listed D v x y ≡ true → Facts lefts rights v m x y
+  listed-facts-are v m h hm e =
+      let s = listed-is D v x y e in
+      let k : v < q = omega arith in
+      let l : getD lefts v 0 ≡ x = T .left v k ∙ sym (s .left) in
+      record {
+        below = h;
+        left = l;
+        longer = omega (arith, R .parts-ready .lower v k (longer file lefts rights q D T v k (s .long)) .left);
+        right = T .right v k ∙ sym (s .right);
+      }
+
+  listed-bytes : (v : ℕ) → v < q → listed D v x y ≡ true → D .bytes v ≡ D .bytes x ++ D .bytes y
+  listed-bytes v k e =
+      let s = listed-is D v x y e in
+      sym (T .joined v k (s .long)) ∙ ap₂ (λ (a b : List ℕ). a ++ b) (ap (D .bytes) (sym (s .left))) (ap (D .bytes) (sym (s .right)))
+
+  -- one row is listed with them
+  one-listed : Distinct file → (v w : ℕ) → v < q → w < q → listed D v x y ≡ true → listed D w x y ≡ true → v ≡ w
+  one-listed distinct v w hv hw e f =
+      let g = R .few in
+      let c = R .places-ready .count in
+      distinct v w (omega arith) (omega arith) (sym (T .bytes v hv) ∙ listed-bytes v hv e ∙ sym (listed-bytes w hw f) ∙ T .bytes w hw)
+
+  -- so none is below m where one from m on is
+  none-before : Distinct file → (w m : ℕ) → w < q → m ≤ q → m ≤ w → listed D w x y ≡ true → listedBelow D m x y ≡ false
+  none-before distinct w m hw hm h f = listed-none D m x y (λ v k e. let z = one-listed distinct v w (omega arith) hw e f in omega arith)
+
+  -- their join is w: any row that is listed with them is it
   module _ (w m : ℕ) (hm : m ≤ q) (distinct : Distinct file) (F : Finds file places n area)
       (J : Found file places n area (row file places n x ++ row file places n y) w) where
     joined : RowIs (row file places n) n (row file places n x ++ row file places n y) w
     joined = J .found F
 
-    hx : x < n
-    hx = let f = R .few in omega (arith, R .left-below)
-
-    hy : y < n
-    hy = let f = R .few in omega (arith, R .right-below)
-
-    few : q ≤ n
-    few = R .few
-
-    hit : w < m → getD lefts w 0 ≡ x → getD rights w 0 ≡ y → listed D w x y ≡ true
-    hit h l r =
-        let P = R .places-ready in
-        let g = few in
-        let some : w ≡ none → ⊥ = λ z. let f = P .placed .few in omega arith in
-        let i = joined .is some in
-        let e : getD (rows file) w [] ≡ getD (rows file) x [] ++ getD (rows file) y [] =
-        sym (P .rows-are w (omega arith)) ∙ i .1 ∙ ap₂ (λ (a b : List ℕ). a ++ b) (P .rows-are x hx) (P .rows-are y hy) in
-        let z : 1 < length (getD (rows file) w []) = omega (arith, ap length e, length-append (getD (rows file) x []) (getD (rows file) y []), P .filled x hx, P .filled y hy) in
-        rw (long file lefts rights q D T w (omega arith) z, eq-eqb x (D .left w) (sym l ∙ T .left w (omega arith)), eq-eqb y (D .right w) (sym r ∙ T .right w (omega arith)))
-
-    -- any listed row is the join
     one-join : (v : ℕ) → v < m → listed D v x y ≡ true → v ≡ w
     one-join v h e =
-        let s = listed-is D v x y e in
-        let b : row file places n v ≡ row file places n x ++ row file places n y =
-        row-is v (omega arith) ∙ sym (T .joined v (omega arith) (s .long))
-        ∙ ap₂ (λ (a b : List ℕ). a ++ b) (ap (D .bytes) (sym (s .left)) ∙ sym (row-is x (R .left-below))) (ap (D .bytes) (sym (s .right)) ∙ sym (row-is y (R .right-below))) in
-        go (ℕ-discrete w none) b
+        go (ℕ-discrete w none)
+        (row-is v (omega arith) ∙ listed-bytes v (omega arith) e ∙ ap₂ (λ (a b : List ℕ). a ++ b) (sym (row-is x (R .left-below))) (sym (row-is y (R .right-below))))
       where
         go : Dec (w ≡ none) → row file places n v ≡ row file places n x ++ row file places n y → v ≡ w
-        go (yes z) b = let g = few in absurd (joined .all z v (omega arith) b)
+        go (yes z) b = let g = R .few in absurd (joined .all z v (omega arith) b)
         go (no z) b =
             let P = R .places-ready in
-            let g = few in
+            let g = R .few in
             let c = P .count in
             let i = joined .is z in
             distinct v w (omega arith) (omega (arith, i .0)) (sym (P .rows-are v (omega arith)) ∙ b ∙ sym (i .1) ∙ P .rows-are w (i .0))
 
-    miss : ((w < m) × ((getD lefts w 0 ≡ x) × (getD rights w 0 ≡ y)) → ⊥) → listedBelow D m x y ≡ false
-    miss no' = listed-none D m x y (λ v h e.
-        let s = listed-is D v x y e in
-        let i = one-join v h e in
-        no' (rw (← i) h, (rw (← i) (T .left v (omega arith) ∙ sym (s .left)), rw (← i) (T .right v (omega arith) ∙ sym (s .right)))))
+    unlisted-join : listedIn lefts rights w m x y ≡ false → listedBelow D m x y ≡ false
+    unlisted-join e = listed-none D m x y (λ v h f.
+        let i = one-join v h f in
+        not-listed lefts rights w m x y e (subst (λ (z : ℕ). Facts lefts rights z m x y) i (listed-facts-are v m h hm f)))
 
-    -- of the row that is their join
-    pub listed-join : listedIn lefts rights w m x y ≡ true → listed D w x y ≡ true
-    listed-join e = let f = listed-facts lefts rights w m x y e in hit (f .0) (f .1 .0) (f .1 .1)
-
-    pub unlisted-join : listedIn lefts rights w m x y ≡ false → listedBelow D m x y ≡ false
-    unlisted-join e = miss (not-listed lefts rights w m x y e)
-
-module _ (file places lefts rights area : List ℕ) (n m x y : ℕ) where
-  -- the join was looked up, and is listed with the two
-  pub joins-listed : (w : ℕ) (b : Bool) → Found file places n area (row file places n x ++ row file places n y) w → b ≡ listedIn lefts rights w m x y → b ≡ true → JoinIs file places lefts rights area n m x y w
-  joins-listed w b J e t =
+module _ (file places lefts rights area : List ℕ) (n q m x y : ℕ) (hm : m ≤ q) where
+  -- a row below m that has them as its parts
+  pub joins-listed : (w : ℕ) (b : Bool) → b ≡ listedIn lefts rights w m x y → b ≡ true → JoinIs file places lefts rights area n q m x y w
+  joins-listed w b e t =
       let f = listed-facts lefts rights w m x y (sym e ∙ t) in
       record {
-        bound = inr (f .0);
-        nothing = λ z q h R D T d F M. absurd (let c = R .places-ready .placed .few in let k = R .few in let l = f .0 in omega arith);
-        is = λ _ q h R D T d F. listed-join file places lefts rights area n q x y R D T w m h d F J (sym e ∙ t);
+        bound = inr (f .below);
+        nothing = λ z R D T d F M. absurd (let c = R .places-ready .placed .few in let k = R .few in let l = f .below in omega arith);
+        is = λ _ R D T d F. facts-listed file places lefts rights area n q x y R D T w m hm f;
       }
 
-  -- it is not
-  pub joins-other : (w : ℕ) (b : Bool) → Found file places n area (row file places n x ++ row file places n y) w → b ≡ listedIn lefts rights w m x y → b ≡ false → JoinIs file places lefts rights area n m x y none
+  -- one below q, which is below m or not
+  pub joins-hinted : (w : ℕ) (b : Bool) → b ≡ listedIn lefts rights w q x y → b ≡ true → JoinIs file places lefts rights area n q m x y (rowBelow w m)
+  unfolding rowBelow
+  joins-hinted w b e t = go (decLt w m)
+    where
+      f : Facts lefts rights w q x y
+      f = listed-facts lefts rights w q x y (sym e ∙ t)
+
+      go : Dec (w < m) → JoinIs file places lefts rights area n q m x y (rowBelow w m)
+      go (yes h) = rw (lt-ltb w m h, rowBelow) (record {
+        bound = inr h;
+        nothing = λ z R D T d F M. absurd (let c = R .places-ready .placed .few in let k = R .few in omega arith);
+        is = λ _ R D T d F. facts-listed file places lefts rights area n q x y R D T w q (omega arith) f;
+      })
+      go (no h) = rw (le-ltb w m (omega arith), rowBelow) (record {
+        bound = inl refl;
+        nothing = λ _ R D T d F M. none-before file places lefts rights area n q x y R D T d w m (f .below) hm (omega arith) (facts-listed file places lefts rights area n q x y R D T w q (omega arith) f);
+        is = λ z. absurd (z refl);
+      })
+
+  -- the join was looked up, and does not have them as its parts
+  pub joins-other : (w : ℕ) (b : Bool) → Found file places n area (row file places n x ++ row file places n y) w → b ≡ listedIn lefts rights w m x y → b ≡ false → JoinIs file places lefts rights area n q m x y none
   joins-other w b J e t = record {
     bound = inl refl;
-    nothing = λ _ q h R D T d F M. unlisted-join file places lefts rights area n q x y R D T w m h d F J (sym e ∙ t);
+    nothing = λ _ R D T d F M. unlisted-join file places lefts rights area n q x y R D T w m hm d F J (sym e ∙ t);
     is = λ z. absurd (z refl);
   }
 
   -- the two are not marked
-  pub joins-unmarked : (k : ℕ) (b : Bool) → k ≡ pairKey x y → b ≡ marked area 15360 k → b ≡ false → JoinIs file places lefts rights area n m x y none
+  pub joins-unmarked : (k : ℕ) (b : Bool) → k ≡ pairKey x y → b ≡ marked area 15360 k → b ≡ false → JoinIs file places lefts rights area n q m x y none
   joins-unmarked k b z f e = record {
     bound = inl refl;
-    nothing = λ _ q h R D T d F M. unmarked file places lefts rights area n q x y R D T m h M (ap (marked area 15360) (sym z) ∙ sym f ∙ e);
+    nothing = λ _ R D T d F M. unmarked file places lefts rights area n q x y R D T m hm M (ap (marked area 15360) (sym z) ∙ sym f ∙ e);
     is = λ z. absurd (z refl);
   }
+
+module _ (file places lefts rights area : List ℕ) (n q m x y r : ℕ) (J : JoinIs file places lefts rights area n q m x y r) where
+  pub is-joined : (r ≡ none → ⊥) → IsJoined file places lefts rights area n q m x y true
+  is-joined z = record { row = r; join = J; yes = λ _. z; no = λ e. absurd (true-false e) }
+
+  pub is-not-joined : r ≡ none → IsJoined file places lefts rights area n q m x y false
+  is-not-joined z = record { row = r; join = J; yes = λ e. absurd (true-false (sym e)); no = λ _. z }

@@ -2,13 +2,16 @@
 use mathlib.Core.Path.{_≡_, refl, sym, _∙_}
 use mathlib.Core.Logic.{_⊎_, inl, inr, ⊎-elim}
 use mathlib.Core.List.{List, []}
-use mathlib.Core.Bool.{true, false}
+use mathlib.Core.Bool.{Bool, true, false, _||_}
 use Prim.Native.Nat.{ℕ, _+_, _≤_, _<_}
-use native.Mathlib.Decide.{ℕ-discrete}
+use native.Mathlib.Decide.{ℕ-discrete, decLt}
 use native.Mathlib.Numerals.{add-one}
 use native.Mathlib.Omega.{arith}
 use lib.ListN.{length, getD}
+use lib.Dec.{ltb, eqb}
+use borrow.Author.Tests.{lt-ltb, le-ltb, eq-eqb, eqb-true}
 use Rattle.theory.specs.Dictionary.{Dictionary}
+use Rattle.theory.proofs.Lists.{true-false}
 use Rattle.theory.specs.PairCheck.{listedBelow, passes}
 use Rattle.theory.proofs.PairSteps.{listed-one, Falling, checks, check-fails, check-ends, check-left, check-right}
 use Rattle.phrase_file.specs.Form.{rows}
@@ -17,6 +20,22 @@ use Rattle.placed_rows.specs.Rows.{none}
 use Rattle.search_area.specs.Area.{Finds}
 use Rattle.token_pair.specs.Pair.{Distinct, Tells, PairsMarked, PairReady, JoinReady, JoinIs, PairIs}
 use Rattle.token_pair.proofs.Joins as Joins
+
+-- which of two rows is undone, the left one being longer
+module _ (x y p : ℕ) (r : Bool) (e : r ≡ ltb y x || eqb p y) where
+  pub undone-first : r ≡ true → (y < x) ⊎ (p ≡ y)
+  undone-first t = go (decLt y x)
+    where
+      go : Dec (y < x) → (y < x) ⊎ (p ≡ y)
+      go (yes h) = inl h
+      go (no h) = inr (eqb-true p y (sym (rw (le-ltb y x (omega arith)) at e) ∙ t))
+
+  pub undone-later : r ≡ false → (x ≤ y) × (p ≡ y → ⊥)
+  undone-later f = go (decLt y x)
+    where
+      go : Dec (y < x) → (x ≤ y) × (p ≡ y → ⊥)
+      go (yes h) = absurd (true-false (sym (rw (lt-ltb y x h) at e) ∙ f))
+      go (no h) = (omega arith, λ z. true-false (sym (rw (le-ltb y x (omega arith), eq-eqb p y z) at e) ∙ f))
 
 -- what stands still while two rows are undone
 module _ (file places lefts rights : List ℕ) (n q : ℕ) (P : PlacesReady file places n) (S : PartsReady file lefts rights q) (few : q ≤ n) where
@@ -88,14 +107,15 @@ walk-start file places lefts rights area n q u v R = record {
 }
 
 module _ (file places lefts rights area : List ℕ) (n q u v x y m : ℕ) (W : Walking file places lefts rights area n q u v x y m) where
-  pub walk-joins : JoinReady file places lefts rights area n m x y
+  pub walk-joins : JoinReady file places lefts rights area n q m x y
   walk-joins =
       let f = W .ready .few in
       record {
         placed = W .ready .places-ready .placed;
         area-room = W .ready .area-room;
-        left-room = omega (arith, W .bound-below, W .ready .parts-ready .left-room);
-        right-room = omega (arith, W .bound-below, W .ready .parts-ready .right-room);
+        left-room = W .ready .parts-ready .left-room;
+        right-room = W .ready .parts-ready .right-room;
+        below = W .bound-below;
         left-below = omega (arith, W .left-below);
         right-below = omega (arith, W .right-below);
       }
@@ -111,9 +131,9 @@ module _ (file places lefts rights area : List ℕ) (n q u v x y m : ℕ) (W : W
   }
 
 module _ (file places lefts rights area : List ℕ) (n q u v x y m b : ℕ) (W : Walking file places lefts rights area n q u v x y m)
-    (J : JoinIs file places lefts rights area n m x y b) where
+    (J : JoinIs file places lefts rights area n q m x y b) where
   some : (b ≡ none → ⊥) → (D : Dictionary) → Tells D file lefts rights q → Distinct file → Finds file places n area → listedBelow D m x y ≡ true
-  some z D T d F = listed-one D m x y b (⊎-elim (λ e. absurd (z e)) (λ h. h) (J .bound)) (J .is z q (W .bound-below) (here file places lefts rights area n q u v x y m W) D T d F)
+  some z D T d F = listed-one D m x y b (⊎-elim (λ e. absurd (z e)) (λ h. h) (J .bound)) (J .is z (here file places lefts rights area n q u v x y m W) D T d F)
 
   pub walk-fails : (b ≡ none → ⊥) → PairIs file places lefts rights area n q u v false
   walk-fails l = record {
@@ -124,7 +144,7 @@ module _ (file places lefts rights area : List ℕ) (n q u v x y m b : ℕ) (W :
 
   module _ (l : b ≡ none) where
     clear : (D : Dictionary) → Tells D file lefts rights q → Distinct file → Finds file places n area → PairsMarked lefts rights area q → listedBelow D m x y ≡ false
-    clear = J .nothing l q (W .bound-below) (here file places lefts rights area n q u v x y m W)
+    clear = J .nothing l (here file places lefts rights area n q u v x y m W)
 
     pub walk-ends : (p r : ℕ) → p ≡ getD rights x 0 → p ≡ x → r ≡ getD lefts y 0 → r ≡ y → PairIs file places lefts rights area n q u v true
     walk-ends p r ep dp er dr =

@@ -31,6 +31,14 @@ pub record Tells (D : Dictionary) (file lefts rights : List ℕ) (q : ℕ) : Typ
 unfoldable pub pairKey : ℕ → ℕ → ℕ
 pairKey u v = (u % 4096 * 4096 + v % 4096) * 2654435769 % 4294967296 / 4096
 
+-- the place, among the numbers 7,680 to 15,359 of the search area, of the row that has the two as its parts, if it is named there
+unfoldable pub hintPlace : ℕ → ℕ → ℕ
+hintPlace u v = 7680 + (u % 4096 * 4096 + v % 4096) * 2654435769 % 4294967296 * 7680 / 4294967296
+
+-- row c if it is below m, else none
+unfoldable pub rowBelow : ℕ → ℕ → ℕ
+rowBelow c m = elim (ltb c m) [ true ↦ c | false ↦ none ]
+
 -- the marks of pairs, from number 15,360 of the search area on: the two parts of every longer row below q are marked
 abbrev pub PairsMarked : List ℕ → List ℕ → List ℕ → ℕ → Type 0
 PairsMarked lefts rights area q = (c : ℕ) → c < q → getD lefts c 0 < c → marked area 15360 (pairKey (getD lefts c 0) (getD rights c 0)) ≡ true
@@ -44,26 +52,34 @@ pub record PairReady (file places lefts rights area : List ℕ) (n q u v : ℕ) 
   pub left-below : u < q
   pub right-below : v < q
 
--- row c is below m and has u and v as its parts
+-- row c is below m, longer than a byte, and has u and v as its parts
 unfoldable pub listedIn : List ℕ → List ℕ → ℕ → ℕ → ℕ → ℕ → Bool
-listedIn lefts rights c m u v = ltb c m && (eqb (getD lefts c 0) u && eqb (getD rights c 0) v)
+listedIn lefts rights c m u v = ltb c m && (eqb (getD lefts c 0) u && (ltb u c && eqb (getD rights c 0) v))
 
--- what may be read for one join: the rows, the parts of the rows below m, and two rows
-pub record JoinReady (file places lefts rights area : List ℕ) (n m u v : ℕ) : Type 0 where
+-- what may be read for one join below m: the rows, the parts of the rows below q, and two rows
+pub record JoinReady (file places lefts rights area : List ℕ) (n q m u v : ℕ) : Type 0 where
   pub placed : Placed file places n
   pub area-room : 16384 ≤ length area
-  pub left-room : m ≤ length lefts
-  pub right-room : m ≤ length rights
+  pub left-room : q ≤ length lefts
+  pub right-room : q ≤ length rights
+  pub below : m ≤ q
   pub left-below : u < n
   pub right-below : v < n
 
 -- r is the row below m that has u and v as its parts, or none
-pub record JoinIs (file places lefts rights area : List ℕ) (n m u v r : ℕ) : Type 0 where
+pub record JoinIs (file places lefts rights area : List ℕ) (n q m u v r : ℕ) : Type 0 where
   pub bound : (r ≡ none) ⊎ (r < m)
-  pub nothing : r ≡ none → (q : ℕ) → m ≤ q → PairReady file places lefts rights area n q u v → (D : Dictionary) → Tells D file lefts rights q → Distinct file → Finds file places n area → PairsMarked lefts rights area q
+  pub nothing : r ≡ none → PairReady file places lefts rights area n q u v → (D : Dictionary) → Tells D file lefts rights q → Distinct file → Finds file places n area → PairsMarked lefts rights area q
       → listedBelow D m u v ≡ false
-  pub is : (r ≡ none → ⊥) → (q : ℕ) → m ≤ q → PairReady file places lefts rights area n q u v → (D : Dictionary) → Tells D file lefts rights q → Distinct file → Finds file places n area
+  pub is : (r ≡ none → ⊥) → PairReady file places lefts rights area n q u v → (D : Dictionary) → Tells D file lefts rights q → Distinct file → Finds file places n area
       → listed D r u v ≡ true
+
+-- whether there is such a row
+pub record IsJoined (file places lefts rights area : List ℕ) (n q m u v : ℕ) (b : Bool) : Type 0 where
+  pub row : ℕ
+  pub join : JoinIs file places lefts rights area n q m u v row
+  pub yes : b ≡ true → row ≡ none → ⊥
+  pub no : b ≡ false → row ≡ none
 
 -- the answer is that of the pair check over the rows below q
 pub record PairIs (file places lefts rights area : List ℕ) (n q u v : ℕ) (r : Bool) : Type 0 where

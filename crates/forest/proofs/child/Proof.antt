@@ -1,11 +1,8 @@
 -- The first word of the bucket, the marks, or the whole bucket. Assumes nothing.
-use mathlib.Core.Path.{refl, sym, ap, _∙_}
-use Prim.Native.Nat.{ℕ, _+_}
+use mathlib.Core.Path.{refl, sym, _∙_}
+use Prim.Native.Nat.{_+_}
 use native.Mathlib.Omega.{arith}
 use borrow.Author.Needs.{needs}
-use Rattle.placed_rows.proofs.Facing.{facing-length}
-use Rattle.marks.specs.Marks.{marked}
-use Rattle.forest.specs.Words.{bucketOf, childKey, marksFrom}
 use Rattle.forest.proofs.Searching.{search-one, search-unmarked, search-empty}
 use Rattle.forest.proofs.child.Statement.{statement}
 use Rattle.forest.proofs.child.Tie as tie
@@ -14,12 +11,10 @@ no-match-requires : tie.Need-no-match-requires
 no-match-requires c κs = search needs
 
 returns : tie.Need-returns
-returns c =
-    let a = c .before .before .before .before .before .before .args in
-    rw (c .no-match .ensures) (search-empty _ _ _ _ _ _ _ (facing-length (a .back) (a .rest .now) ∙ c .before .if1 .taken))
+returns c = rw (c .no-match .ensures) (search-empty _ _ _ _ _ _ _ (c .before .if1 .taken))
 
-first-requires : tie.Need-first-requires
-first-requires c κs = search needs
+shared-slice-read-next : tie.Need-shared-slice-read-next
+shared-slice-read-next c = search needs
 
 bucket-requires : tie.Need-bucket-requires
 bucket-requires c κs = search needs
@@ -33,18 +28,17 @@ shared-slice-read-w c = search needs
 is-one-longer-requires : tie.Need-is-one-longer-requires
 is-one-longer-requires c κs = search needs
 
-add-t18 : tie.Need-add-t18
-add-t18 c = let o = c .before .is-one-longer .ensures (c .if2 .taken) in let z = o .one in let y = o .short in omega arith
+add-t19 : tie.Need-add-t19
+add-t19 c = let o = c .before .is-one-longer .ensures (c .if2 .taken) in let z = o .one in let y = o .short in omega arith
 
 returns-2 : tie.Need-returns-2
 returns-2 c =
     let s = c .before .before .before .before .before .before .before .before .before .before in
-    let f = c .before .before .before .before .first .ensures in
     let h = c .before .before .before .bucket in
     let o = c .before .is-one-longer .ensures (c .if2 .taken) in
-    search-one _ _ _ _ _ _ _ (h .result) (s .args .len + 1) (h .ensures .is ∙ ap (bucketOf (s .args .p)) (f .is)) refl o (s .pre .0 .few)
-    (omega (arith, f .is, f .below))
-    (omega (arith, facing-length (s .args .back) (s .args .rest .now), c .before .before .before .before .before .if1 .left))
+    search-one _ _ _ _ _ (s .args .rest .now) _ (h .result) (s .args .len + 1) (h .ensures .is) refl o (s .pre .0 .few)
+    (omega (arith, c .before .before .before .before .shared-slice-known5 .given 0))
+    (omega (arith, c .before .before .before .before .before .if1 .left))
     (let z = o .one in omega arith)
     (let z = o .one in let y = o .short in omega arith)
 
@@ -61,10 +55,7 @@ no-match-requires-2 : tie.Need-no-match-requires-2
 no-match-requires-2 c κs = search needs
 
 returns-4 : tie.Need-returns-4
-returns-4 c =
-    let a = c .before .before .before .before .before .before .before .before .before .before .before .before .before .args in
-    let m = c .before .before .may-have-child in
-    rw (c .no-match2 .ensures) (search-unmarked _ _ _ _ _ _ _ (ap (λ (b : ℕ). marked (a .half .now) marksFrom (childKey (a .p) b)) (sym (c .before .before .before .before .before .before .before .first .ensures .is)) ∙ sym (m .ensures) ∙ c .before .if3 .left))
+returns-4 c = rw (c .no-match2 .ensures) (search-unmarked _ _ _ _ _ _ _ (sym (c .before .before .may-have-child .ensures) ∙ c .before .if3 .left))
 
 pub child-spec : {M : Type 1} → statement M
 child-spec =
@@ -72,12 +63,12 @@ child-spec =
     (tie.spec
     no-match-requires
     returns
-    first-requires
+    shared-slice-read-next
     bucket-requires
     mul-w
     shared-slice-read-w
     is-one-longer-requires
-    add-t18
+    add-t19
     returns-2
     may-have-child-requires
     listed-child-requires

@@ -1,12 +1,12 @@
 -- Rests on the laws of the test, one for each way in which it ends. Assumes nothing.
 use mathlib.Core.Path.{sym, ap, _∙_}
 use mathlib.Core.List.{List}
-use Prim.Native.Nat.{ℕ}
+use Prim.Native.Nat.{ℕ, _-_}
 use native.Mathlib.Omega.{arith}
-use lib.ListN.{length, drop}
+use lib.ListN.{length, length-drop, drop}
+use lib.Seq.{take-all}
 use borrow.Author.Needs.{needs}
-use Rattle.placed_rows.proofs.Facing.{facing-length, rowFacing-length, rowFacing-is}
-use Rattle.placed_rows.specs.Texts.{begins, facing}
+use Rattle.placed_rows.specs.Texts.{begins}
 use Rattle.forest.proofs.Fitting.{fits-other, fits-short, fits-one, fits-unlike, fits-compared}
 use Rattle.forest.proofs.fits.Statement.{statement}
 use Rattle.forest.proofs.fits.Tie as tie
@@ -26,7 +26,7 @@ sub-if3 c = search needs
 returns-3 : tie.Need-returns-3
 returns-3 c =
     let s = c .before .before .before .before .before .before .before in
-    fits-one _ _ _ _ _ _ (s .pre .0 .few) (c .before .before .before .if1 .left) (omega (arith, c .before .before .len-of .ensures .is)) (omega (arith, s .pre .1 .1, facing-length (s .args .back) (s .args .rest .now)))
+    fits-one _ _ _ _ _ _ (s .pre .0 .few) (c .before .before .before .if1 .left) (omega (arith, c .before .before .len-of .ensures .is)) (s .pre .1 .1)
 
 row-of-requires : tie.Need-row-of-requires
 row-of-requires c κs = search needs
@@ -37,17 +37,20 @@ bytes-of-requires c κs = search needs
 returns-4 : tie.Need-returns-4
 returns-4 c =
     let s = c .before .before .before .before .before .before .before .before .before .before in
-    let a = s .args in
-    let i = c .before .before .row-of .result in
-    let l = rowFacing-length (a .back) (a .file .now) (a .places .now) (a .n) i in
-    fits-unlike _ _ _ _ _ _ (s .pre .0 .few) i (c .before .before .before .before .before .len-of .result) (c .before .before .row-of .ensures .is) (c .before .before .before .before .before .len-of .ensures .is)
-    (λ e. c .if4 .taken (ap length (c .before .bytes-of .ensures) ∙ sym l ∙ e))
+    fits-unlike _ _ _ _ _ _ (s .pre .0 .few) (c .before .before .row-of .result) (c .before .before .before .before .before .len-of .result) (c .before .before .row-of .ensures .is) (c .before .before .before .before .before .len-of .ensures .is)
+    (λ e. c .if4 .taken (ap length (c .before .bytes-of .ensures) ∙ e))
 
-beyond-requires : tie.Need-beyond-requires
-beyond-requires c κs = search needs
+sub-begins-with : tie.Need-sub-begins-with
+sub-begins-with c = search needs
 
-begins-facing-requires : tie.Need-begins-facing-requires
-begins-facing-requires c κs = search needs
+part-begins-with-start : tie.Need-part-begins-with-start
+part-begins-with-start c = search needs
+
+part-begins-with-end : tie.Need-part-begins-with-end
+part-begins-with-end c = search needs
+
+begins-with-requires : tie.Need-begins-with-requires
+begins-with-requires c κs = search needs
 
 returns-5 : tie.Need-returns-5
 returns-5 c =
@@ -55,11 +58,10 @@ returns-5 c =
     let a = s .args in
     let i = c .before .before .before .before .row-of .result in
     let bytes = c .before .before .before .bytes-of in
-    let l = rowFacing-length (a .back) (a .file .now) (a .places .now) (a .n) i in
-    let is = rowFacing-is (a .back) (a .file .now) (a .places .now) (a .n) i (bytes .result .now) (bytes .ensures) in
-    fits-compared _ _ _ _ _ _ (s .pre .0 .few) (c .begins-facing .result) i (c .before .before .before .before .before .before .before .len-of .result) (c .before .before .before .before .row-of .ensures .is) (c .before .before .before .before .before .before .before .len-of .ensures .is)
-    (l ∙ sym (ap length (bytes .ensures)) ∙ c .before .before .if4 .left) (c .before .before .before .before .before .before .before .before .if1 .left) (omega arith)
-    (c .begins-facing .ensures ∙ ap (λ (t : List ℕ). begins t (facing (a .back) (a .rest .now))) (c .before .beyond .ensures ∙ ap (drop (a .len)) is))
+    let t = bytes .result .now in
+    fits-compared _ _ _ _ _ _ (s .pre .0 .few) (c .begins-with .result) i (c .before .before .before .before .before .before .before .len-of .result) (c .before .before .before .before .row-of .ensures .is) (c .before .before .before .before .before .before .before .len-of .ensures .is)
+    (sym (ap length (bytes .ensures)) ∙ c .before .before .if4 .left) (c .before .before .before .before .before .before .before .before .if1 .left) (omega arith)
+    (c .begins-with .ensures ∙ ap (λ (u : List ℕ). begins u (a .rest .now)) (take-all (length t - a .len) (drop (a .len) t) (omega (arith, length-drop (a .len) t)) ∙ ap (drop (a .len)) (bytes .ensures)))
 
 pub fits-spec : {M : Type 1} → statement M
 fits-spec =
@@ -73,6 +75,8 @@ fits-spec =
     row-of-requires
     bytes-of-requires
     returns-4
-    beyond-requires
-    begins-facing-requires
+    sub-begins-with
+    part-begins-with-start
+    part-begins-with-end
+    begins-with-requires
     returns-5)

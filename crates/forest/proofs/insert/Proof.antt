@@ -1,9 +1,8 @@
 -- Rests on the descent, which ends at the prefix of row c, and on the law that a push there keeps the half in order. Assumes nothing.
-use mathlib.Core.Path.{sym, ap, _∙_}
+use mathlib.Core.Path.{refl, ap}
 use native.Mathlib.Omega.{arith}
 use lib.ListN.{length}
 use borrow.Author.Needs.{needs}
-use Rattle.placed_rows.proofs.Facing.{facing-length, rowFacing-is, beyond-length, beyond-first}
 use Rattle.forest.proofs.Marking.{length-marked}
 use Rattle.forest.proofs.Inserting.{insert-none, insert-done}
 use Rattle.forest.proofs.insert.Statement.{statement}
@@ -15,13 +14,8 @@ bytes-of-requires c κs = search needs
 longest-requires : tie.Need-longest-requires
 longest-requires c κs = search needs
 
-beyond-requires : tie.Need-beyond-requires
-beyond-requires c κs = search needs
-
-first-requires : tie.Need-first-requires
-first-requires c κs =
-    let bytes = c .before .before .before .before .bytes-of .result .now in
-    omega (arith, beyond-length (c .before .before .before .before .before .before .before .before .args .back) bytes (c .beyond .result .now) (c .before .before .longest .result .len) (c .beyond .ensures), c .before .if1 .taken)
+shared-slice-read-next : tie.Need-shared-slice-read-next
+shared-slice-read-next c = search needs
 
 bucket-requires : tie.Need-bucket-requires
 bucket-requires c κs = search needs
@@ -30,17 +24,17 @@ child-key-requires : tie.Need-child-key-requires
 child-key-requires c κs = search needs
 
 mark-requires : tie.Need-mark-requires
-mark-requires c κs = (omega arith, omega (arith, c .child-key .ensures .below, c .before .before .before .before .before .before .before .before .before .before .before .before .pre .1 .0))
+mark-requires c κs = (omega arith, omega (arith, c .child-key .ensures .below, c .before .before .before .before .before .before .before .before .before .before .before .pre .1 .0))
 
 word-of-requires : tie.Need-word-of-requires
 word-of-requires c κs =
-    let s = c .before .before .before .before .before .before .before .before .before .before .before .before .before .before .before .before in
+    let s = c .before .before .before .before .before .before .before .before .before .before .before .before .before .before .before in
     let f = s .pre .0 .few in
-    (omega (arith, s .pre .1 .1 .0), (omega (arith, c .before .before .before .before .before .before .before .before .before .if1 .taken), omega (arith, ap length (c .before .before .before .before .before .before .before .before .before .before .before .before .bytes-of .ensures), s .pre .1 .1 .1)))
+    (omega (arith, s .pre .1 .1 .0), (omega (arith, c .before .before .before .before .before .before .before .before .if1 .taken), omega (arith, ap length (c .before .before .before .before .before .before .before .before .before .before .before .bytes-of .ensures), s .pre .1 .1 .1)))
 
 push-requires : tie.Need-push-requires
 push-requires c κs =
-    let s = c .before .before .before .before .before .before .before .before .before .before .before .before .before .before .before .before .before in
+    let s = c .before .before .before .before .before .before .before .before .before .before .before .before .before .before .before .before in
     (s .pre .0 .few, (omega (arith, s .pre .0 .few, s .pre .1 .1 .0), (c .before .before .before .before .before .before .before .bucket .ensures .below, omega (arith, s .pre .1 .0, length-marked _ _ _ (c .before .before .before .before .mark .ensures)))))
 
 same-length : tie.Need-same-length
@@ -48,21 +42,18 @@ same-length c = search needs
 
 returns : tie.Need-returns
 returns c =
-    let s = c .before .before .before .before .before .before .before .before .before .before .before .before .before .before .before .before .before .before .before .before in
-    let back = s .args .back in
-    let bytes = c .before .before .before .before .before .before .before .before .before .before .before .before .before .before .before .before .bytes-of in
-    let m = c .before .before .before .before .before .before .before .before .before .before .before .before .before .before .longest in
-    let u = c .before .before .before .before .before .before .before .before .before .before .before .before .beyond in
-    let f = c .before .before .before .before .before .before .before .before .before .before .before .first in
+    let s = c .before .before .before .before .before .before .before .before .before .before .before .before .before .before .before .before .before .before .before in
+    let bytes = c .before .before .before .before .before .before .before .before .before .before .before .before .before .before .before .bytes-of in
+    let m = c .before .before .before .before .before .before .before .before .before .before .before .before .before .longest in
     rw (c .before .before .push .ensures)
-    (insert-done _ _ _ _ _ _ _ (s .pre .1 .0) (rowFacing-is back _ _ _ _ _ (bytes .ensures)) (m .ensures) _ _ (f .result) _ _ _
+    (insert-done _ _ _ _ _ _ _ (s .pre .1 .0) (bytes .ensures) (m .ensures) _ _ _ _ _ _
     (c .before .before .before .before .before .before .before .mark .ensures)
     (c .before .before .before .before .before .before .before .before .child-key .ensures .is)
-    (f .ensures .is ∙ beyond-first back (bytes .result .now) (u .result .now) (m .result .len) (u .ensures))
-    (f .ensures .below)
+    refl
+    (omega (arith, c .before .before .before .before .before .before .before .before .before .before .before .shared-slice-known3 .given (m .result .len)))
     (c .before .before .before .before .before .before .before .before .before .before .bucket .ensures .is)
     (c .before .before .before .word-of .ensures)
-    (sym (facing-length back (bytes .result .now))))
+    refl)
 
 same-length-2 : tie.Need-same-length-2
 same-length-2 c = search needs
@@ -70,9 +61,8 @@ same-length-2 c = search needs
 returns-2 : tie.Need-returns-2
 returns-2 c =
     let s = c .before .before .before .before .before .before .before in
-    let back = s .args .back in
     let bytes = c .before .before .before .bytes-of in
-    insert-none _ _ _ _ _ _ _ (s .pre .1 .0) (rowFacing-is back _ _ _ _ _ (bytes .ensures)) (c .before .longest .ensures) (omega (arith, c .if1 .left, facing-length back (bytes .result .now)))
+    insert-none _ _ _ _ _ _ _ (s .pre .1 .0) (bytes .ensures) (c .before .longest .ensures) (omega (arith, c .if1 .left))
 
 pub insert-spec : {M : Type 1} → statement M
 insert-spec =
@@ -80,8 +70,7 @@ insert-spec =
     (tie.spec
     bytes-of-requires
     longest-requires
-    beyond-requires
-    first-requires
+    shared-slice-read-next
     bucket-requires
     child-key-requires
     mark-requires

@@ -1,23 +1,21 @@
 -- The loop keeps that a child that was not met yet is among the words that are left of the bucket. Assumes nothing.
-use mathlib.Core.Path.{ap, _∙_}
 use Prim.Native.Nat.{_≤_}
 use native.Mathlib.Omega.{arith}
 use borrow.Author.Needs.{needs}
-use Rattle.placed_rows.specs.Texts.{facing, rowFacing}
-use Rattle.forest.specs.Words.{bucketOf}
+use Rattle.placed_rows.specs.Rows.{row}
 use Rattle.forest.proofs.Walking.{walk-out, walk-zero}
 use Rattle.forest.proofs.Searching.{Search, search-start, search-step, search-hit, search-over}
 use Rattle.forest.proofs.listed_child.Statement.{statement}
 use Rattle.forest.proofs.listed_child.Tie as tie
 
 abbrev Inv-loop : tie.InvT-loop
-Inv-loop file places n half p len rest back next w₀ left₀ w left = (left ≤ n) × Search (rowFacing back file places n) n half p len (facing back rest) w left
+Inv-loop file places n half p len rest next w₀ left₀ w left = (left ≤ n) × Search (row file places n) n half p len rest w left
 
 abbrev μ-loop : tie.MeasureT-loop
-μ-loop file places n half p len rest back next w₀ left₀ w left = left
+μ-loop file places n half p len rest next w₀ left₀ w left = left
 
-first-requires : tie.Need-first-requires Inv-loop μ-loop
-first-requires c κs = search needs
+shared-slice-read-next : tie.Need-shared-slice-read-next Inv-loop μ-loop
+shared-slice-read-next c = search needs
 
 bucket-requires : tie.Need-bucket-requires Inv-loop μ-loop
 bucket-requires c κs = search needs
@@ -29,7 +27,7 @@ shared-slice-read-w : tie.Need-shared-slice-read-w Inv-loop μ-loop
 shared-slice-read-w c = search needs
 
 loop-holds : tie.Need-loop-holds Inv-loop μ-loop
-loop-holds c = (omega arith, search-start _ _ _ _ _ _ (c .before .bucket .result) (c .before .bucket .ensures .is ∙ ap (bucketOf (c .before .before .before .before .before .before .before .args .p)) (c .before .before .first .ensures .is)))
+loop-holds c = (omega arith, search-start _ _ _ _ _ _ (c .before .bucket .result) (c .before .bucket .ensures .is))
 
 row-of-requires : tie.Need-row-of-requires Inv-loop μ-loop
 row-of-requires c κs = search needs
@@ -51,7 +49,6 @@ len-of-requires c κs = search needs
 returns-2 : tie.Need-returns-2 Inv-loop μ-loop
 returns-2 c =
     let s = c .before .before .before .before .before .before .before .before .before .before .before .before .before .before in
-    let f = c .before .before .before .before .before .before .before .before .before .first .ensures in
     let l = c .before .before .before .before .before .before .loop in
     search-hit _ _ _ _ _ _ (l .w) (c .before .before .before .before .row-of .result) (l .left) (c .len-of .result) (c .before .before .before .before .row-of .ensures .is)
     (omega arith)
@@ -59,7 +56,7 @@ returns-2 c =
     (s .pre .0 .few)
     (c .len-of .ensures .is)
     (c .len-of .ensures .below)
-    (omega (arith, f .is, f .below))
+    (omega (arith, c .before .before .before .before .before .before .before .before .before .shared-slice-known5 .given 0))
     (rw (c .before .if2 .taken) at (c .before .before .fits2 .ensures))
     (l .inv .1)
 
@@ -97,7 +94,7 @@ listed-child-spec =
     (tie.spec
     Inv-loop
     μ-loop
-    first-requires
+    shared-slice-read-next
     bucket-requires
     mul-w
     shared-slice-read-w

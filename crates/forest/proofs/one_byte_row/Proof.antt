@@ -1,10 +1,7 @@
 -- The first word of the root's bucket, where its row has one byte, is the word of the root's child. Assumes nothing.
-use mathlib.Core.Path.{refl, ap, _∙_}
+use mathlib.Core.Path.{refl}
 use native.Mathlib.Omega.{arith}
 use borrow.Author.Needs.{needs}
-use Rattle.placed_rows.specs.Rows.{none}
-use Rattle.placed_rows.proofs.Facing.{facing-length}
-use Rattle.forest.specs.Words.{bucketOf}
 use Rattle.forest.proofs.Searching.{search-one}
 use Rattle.forest.proofs.one_byte_row.Statement.{statement}
 use Rattle.forest.proofs.one_byte_row.Tie as tie
@@ -15,8 +12,8 @@ no-match-requires c κs = search needs
 returns : tie.Need-returns
 returns c R ne = absurd (ne (c .no-match .ensures))
 
-first-requires : tie.Need-first-requires
-first-requires c κs = search needs
+shared-slice-read-bucket : tie.Need-shared-slice-read-bucket
+shared-slice-read-bucket c = search needs
 
 bucket-requires : tie.Need-bucket-requires
 bucket-requires c κs = search needs
@@ -33,12 +30,11 @@ is-one-longer-requires c κs = search needs
 returns-2 : tie.Need-returns-2
 returns-2 c R ne =
     let s = c .before .before .before .before .before .before .before .before in
-    let f = c .before .before .before .before .first .ensures in
     let h = c .before .before .before .bucket in
     let o = c .before .is-one-longer .ensures (c .if2 .taken) in
-    search-one R _ _ _ _ _ _ (h .result) 1 (h .ensures .is ∙ ap (bucketOf none) (f .is)) refl o (s .pre .0)
-    (omega (arith, f .is, f .below))
-    (omega (arith, facing-length (s .args .back) (s .args .text .now), c .before .before .before .before .before .if1 .left))
+    search-one R _ _ _ _ (s .args .text .now) _ (h .result) 1 (h .ensures .is) refl o (s .pre .0)
+    (omega (arith, c .before .before .before .before .shared-slice-known3 .given 0))
+    (omega (arith, c .before .before .before .before .before .if1 .left))
     (let z = o .one in omega arith)
     (omega arith)
 
@@ -54,7 +50,7 @@ one-byte-row-spec =
     (tie.spec
     no-match-requires
     returns
-    first-requires
+    shared-slice-read-bucket
     bucket-requires
     mul-w
     shared-slice-read-w

@@ -1,7 +1,6 @@
 -- The one-byte row where there is one, else what the bucket has. Assumes nothing.
 use native.Mathlib.Omega.{arith}
 use borrow.Author.Needs.{needs}
-use Rattle.placed_rows.proofs.Facing.{facing-length}
 use Rattle.forest.proofs.Searching.{search-empty}
 use Rattle.forest.proofs.root_child.Statement.{statement}
 use Rattle.forest.proofs.root_child.Tie as tie
@@ -22,9 +21,7 @@ no-match-requires : tie.Need-no-match-requires
 no-match-requires c κs = search needs
 
 returns-3 : tie.Need-returns-3
-returns-3 c =
-    let a = c .before .before .before .before .before .before .before .before .before .args in
-    rw (c .no-match .ensures) (search-empty _ _ _ _ _ _ _ (omega (arith, facing-length (a .back) (a .text .now), c .before .if2 .left)))
+returns-3 c = rw (c .no-match .ensures) (search-empty _ _ _ _ _ _ _ (omega (arith, c .before .if2 .left)))
 
 pub root-child-spec : {M : Type 1} → statement M
 root-child-spec =

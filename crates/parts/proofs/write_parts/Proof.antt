@@ -1,7 +1,7 @@
--- Rests on what marking a pair leaves. Assumes nothing.
 use native.Mathlib.Omega.{arith}
 use Rattle.token_pair.proofs.Keys.{key-inside}
 use Rattle.parts.proofs.Marking.{written-single, written-marked}
+-- Rests on what naming a row and marking a pair leave. Assumes nothing.
 use borrow.Author.Needs.{needs}
 use Rattle.parts.proofs.write_parts.Statement.{statement}
 use Rattle.parts.proofs.write_parts.Tie as tie
@@ -30,11 +30,14 @@ same-length-2 c = search needs
 returns : tie.Need-returns
 returns c = written-single _ _ _ _ _ _ _ (c .before .wide .ensures .is) (omega arith)
 
+name-row-requires : tie.Need-name-row-requires
+name-row-requires c κs = search needs
+
 pair-key-requires : tie.Need-pair-key-requires
 pair-key-requires c κs = search needs
 
 mark-requires : tie.Need-mark-requires
-mark-requires c κs = (omega arith, key-inside _ _ _ _ (c .pair-key .ensures) (c .before .before .before .before .before .before .before .pre .area-room))
+mark-requires c κs = (omega arith, key-inside _ _ _ _ (c .pair-key .ensures) (omega (arith, c .before .before .before .before .name-row .ensures .kept .area-length, c .before .before .before .before .before .before .before .before .before .before .before .pre .area-room)))
 
 same-length-3 : tie.Need-same-length-3
 same-length-3 c = search needs
@@ -46,7 +49,7 @@ same-length-5 : tie.Need-same-length-5
 same-length-5 c = search needs
 
 returns-2 : tie.Need-returns-2
-returns-2 c = written-marked _ _ _ _ _ _ _ _ (c .before .before .before .pair-key .ensures) (c .before .before .before .before .before .before .before .before .before .before .pre .area-room) (c .before .before .mark .ensures)
+returns-2 c = written-marked _ _ _ _ _ _ _ _ _ (c .before .before .before .before .before .before .before .name-row .ensures) (c .before .before .before .pair-key .ensures) (c .before .before .mark .ensures)
 
 pub write-parts-spec : {M : Type 1} → statement M
 write-parts-spec =
@@ -60,6 +63,7 @@ write-parts-spec =
     same-length
     same-length-2
     returns
+    name-row-requires
     pair-key-requires
     mark-requires
     same-length-3

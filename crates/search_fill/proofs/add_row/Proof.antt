@@ -1,9 +1,9 @@
--- Rests on `insert` for each half, and on the law that joins the halves. Assumes nothing.
+-- Rests on `insert` for the front half. Assumes nothing.
 use mathlib.Core.Path.{sym}
 use native.Mathlib.Omega.{arith}
 use borrow.Author.Needs.{needs}
 use Rattle.search_area.proofs.Halves.{front-length}
-use Rattle.search_fill.proofs.Parting.{twice-inserted}
+use Rattle.search_fill.proofs.Parting.{row-inserted}
 use Rattle.search_fill.proofs.add_row.Statement.{statement}
 use Rattle.search_fill.proofs.add_row.Tie as tie
 
@@ -16,23 +16,11 @@ slice-aggregate-insert c = let s = c .before .before .before .before in sym (fro
 insert-requires : tie.Need-insert-requires
 insert-requires c κs = let s = c .before .before .before .before in (s .pre .0, (omega (arith, front-length (s .args .area .now) (s .pre .1 .0)), s .pre .1 .1))
 
-sub-insert : tie.Need-sub-insert
-sub-insert c = search needs
-
-part-insert-start : tie.Need-part-insert-start
-part-insert-start c = search needs
-
-part-insert-end : tie.Need-part-insert-end
-part-insert-end c = search needs
-
-insert-requires-2 : tie.Need-insert-requires-2
-insert-requires-2 c κs = search needs
-
 same-length : tie.Need-same-length
 same-length c = search needs
 
 returns : tie.Need-returns
-returns c = let s = c .before .before .before .before .before .before .before .before .before .before .before in twice-inserted _ _ _ (s .args .area .now) _ _ _ (s .pre .1 .0) (c .before .before .before .before .before .before .insert .ensures) (c .before .before .insert2 .ensures)
+returns c = let s = c .before .before .before .before .before .before .before in row-inserted _ _ _ (s .args .area .now) _ _ (s .pre .1 .0) (c .before .before .insert .ensures)
 
 pub add-row-spec : {M : Type 1} → statement M
 add-row-spec =
@@ -41,9 +29,5 @@ add-row-spec =
     slice-relend-prefix-insert
     slice-aggregate-insert
     insert-requires
-    sub-insert
-    part-insert-start
-    part-insert-end
-    insert-requires-2
     same-length
     returns)

@@ -1,8 +1,8 @@
--- `token_pair::join_before` meets its contract: two rows that are not marked are the parts of none; of others the join is the row, if it is listed with them. Assumes nothing.
+-- Two that are not marked are the parts of no row. Assumes nothing.
 use native.Mathlib.Omega.{arith}
 use borrow.Author.Tests.{not-true}
 use Rattle.token_pair.proofs.Keys.{key-inside}
-use Rattle.token_pair.proofs.Joins.{joins-listed, joins-other, joins-unmarked}
+use Rattle.token_pair.proofs.Joins.{joins-unmarked}
 use borrow.Author.Needs.{needs}
 use Rattle.token_pair.proofs.join_before.Statement.{statement}
 use Rattle.token_pair.proofs.join_before.Tie as tie
@@ -14,28 +14,14 @@ is-marked-requires : tie.Need-is-marked-requires
 is-marked-requires c κs = (omega arith, key-inside _ _ _ _ (c .pair-key .ensures) (c .before .before .before .before .before .before .pre .area-room))
 
 returns : tie.Need-returns
-returns c = joins-unmarked _ _ _ _ _ _ _ _ _ _ _ (c .before .before .pair-key .ensures) (c .before .is-marked .ensures) (not-true _ (c .if1 .taken))
+returns c = joins-unmarked _ _ _ _ _ _ _ _ _ _ (c .before .before .before .before .before .before .before .before .pre .below) _ _ (c .before .before .pair-key .ensures) (c .before .is-marked .ensures) (not-true _ (c .if1 .taken))
 
-join-requires : tie.Need-join-requires
-join-requires c κs = search needs
-
-is-listed-before-requires : tie.Need-is-listed-before-requires
-is-listed-before-requires c κs = search needs
+look-up-requires : tie.Need-look-up-requires
+look-up-requires c κs = search needs
 
 returns-2 : tie.Need-returns-2
-returns-2 c = joins-listed _ _ _ _ _ _ _ _ _ _ _ (c .before .before .join .ensures) (c .before .is-listed-before .ensures) (c .if2 .taken)
-
-returns-3 : tie.Need-returns-3
-returns-3 c = joins-other _ _ _ _ _ _ _ _ _ _ _ (c .before .before .join .ensures) (c .before .is-listed-before .ensures) (c .if2 .left)
+returns-2 c = c .look-up .ensures
 
 pub join-before-spec : {M : Type 1} → statement M
 join-before-spec =
-    tie.close
-    (tie.spec
-    pair-key-requires
-    is-marked-requires
-    returns
-    join-requires
-    is-listed-before-requires
-    returns-2
-    returns-3)
+    tie.close (tie.spec pair-key-requires is-marked-requires returns look-up-requires returns-2)

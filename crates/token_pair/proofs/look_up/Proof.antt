@@ -1,0 +1,52 @@
+-- A hint that has the two as its parts is the row; else their join decides. Assumes nothing.
+use native.Mathlib.Omega.{arith}
+use Rattle.token_pair.proofs.Keys.{hint-inside}
+use Rattle.token_pair.proofs.Joins.{joins-listed, joins-hinted, joins-other}
+use borrow.Author.Needs.{needs}
+use Rattle.token_pair.proofs.look_up.Statement.{statement}
+use Rattle.token_pair.proofs.look_up.Tie as tie
+
+hint-place-requires : tie.Need-hint-place-requires
+hint-place-requires c κs = search needs
+
+mul-hint : tie.Need-mul-hint
+mul-hint c = omega (arith, hint-inside _ _ _ (c .hint-place .ensures))
+
+shared-slice-read-hint : tie.Need-shared-slice-read-hint
+shared-slice-read-hint c = let z = hint-inside _ _ _ (c .before .hint-place .ensures) .1 in omega (arith, c .before .before .before .before .before .before .before .pre .area-room)
+
+is-listed-before-requires : tie.Need-is-listed-before-requires
+is-listed-before-requires c κs = search needs
+
+row-below-requires : tie.Need-row-below-requires
+row-below-requires c κs = search needs
+
+returns : tie.Need-returns
+returns c = rw (c .row-below .ensures) (joins-hinted _ _ _ _ _ _ _ _ _ _ (c .before .before .before .before .before .before .before .before .before .before .pre .below) _ _ (c .before .before .is-listed-before .ensures) (c .before .if1 .taken))
+
+join-requires : tie.Need-join-requires
+join-requires c κs = search needs
+
+is-listed-before-requires-2 : tie.Need-is-listed-before-requires-2
+is-listed-before-requires-2 c κs = search needs
+
+returns-2 : tie.Need-returns-2
+returns-2 c = joins-listed _ _ _ _ _ _ _ _ _ _ (c .before .before .before .before .before .before .before .before .before .before .before .before .pre .below) _ _ (c .before .is-listed-before2 .ensures) (c .if2 .taken)
+
+returns-3 : tie.Need-returns-3
+returns-3 c = joins-other _ _ _ _ _ _ _ _ _ _ (c .before .before .before .before .before .before .before .before .before .before .before .before .pre .below) _ _ (c .before .before .join .ensures) (c .before .is-listed-before2 .ensures) (c .if2 .left)
+
+pub look-up-spec : {M : Type 1} → statement M
+look-up-spec =
+    tie.close
+    (tie.spec
+    hint-place-requires
+    mul-hint
+    shared-slice-read-hint
+    is-listed-before-requires
+    row-below-requires
+    returns
+    join-requires
+    is-listed-before-requires-2
+    returns-2
+    returns-3)

@@ -15,6 +15,8 @@ use std::time::Instant;
 mod typing;
 
 const SIZES: [usize; 3] = [1024, 2048, 4096];
+/// Texts in one loop.
+const TEXTS: usize = 64;
 /// Lookups in one loop.
 const LOOKUPS: usize = 4096;
 /// A round of a call takes about so long: short, so that some rounds are not interrupted on a machine with other work.
@@ -371,6 +373,23 @@ fn text_calls<'a>(sheet: &'a Sheet, text: &'a [u8]) -> Vec<Call<'a>> {
     calls
 }
 
+/// The encoders on many texts in turn: the branches of one text that is encoded again and again are foreseen better than those of a text that comes once.
+fn turns<'a>(sheet: &'a Sheet, texts: &'a [Vec<u8>]) -> Vec<Call<'a>> {
+    let tables = sheet.tables();
+    let rust = &sheet.rust;
+    let size = SIZES[2];
+    let encoder = |Encoder { name, ours, rust: theirs, .. }| {
+        let (mut out, mut work) = (vec![0; size], vec![0; size]);
+        let mut count = move |text: &[u8]| u64::from(ours(&tables, text, &mut out, &mut work).unwrap());
+        Call::new(format!("{name}, {} texts in turn", texts.len()))
+            .text(size)
+            .run(texts.len(), texts.len())
+            .ours(move || texts.iter().map(|text| count(text)).sum())
+            .rust(move || texts.iter().map(|text| theirs(rust, text).len() as u64).sum())
+    };
+    ENCODERS.into_iter().map(encoder).collect()
+}
+
 /// Measures calls and prints their lines.
 fn lines(sheet: &Sheet, calls: Vec<Call>, rounds: usize, only: &str) {
     for mut call in calls {
@@ -414,7 +433,9 @@ fn main() {
     println!("ns, best of {rounds} rounds; core is public minus check; the ratio is core to Rust\n");
     println!("| call | file | text | ours, public | check | ours, core | Rust | ratio |");
     println!("|---|---|---|---|---|---|---|---|");
-    for sheet in &sheets {
+    let words: Vec<_> = (0..TEXTS).map(|k| language.text(3 + k as u64, SIZES[2])).collect();
+    let numbers: Vec<_> = (0..TEXTS).map(|k| digits(3 + k as u64, SIZES[2])).collect();
+    for (sheet, texts) in sheets.iter().zip([&words, &numbers, &words]) {
         let n = sheet.rows.len() as f64;
         let tables = sheet.tables();
         let name = "check of the tables (num_tokens)";
@@ -434,6 +455,7 @@ fn main() {
             calls.extend(typing::text_calls(sheet, &sheet.text[..size]));
         }
         calls.extend(typing::pushes(sheet));
+        calls.extend(turns(sheet, texts));
         lines(sheet, calls, rounds, &only);
     }
     for sheet in worst() {

@@ -16,7 +16,7 @@ use Rattle.theory.proofs.PairCheck.{Lawful}
 use Rattle.theory.proofs.RowsAt.{In, different, filled, rows-known, rows-every}
 use Rattle.theory.proofs.Longest.{rowLength, known-drop, row-begins}
 use Rattle.theory.proofs.ShortestSteps.{behind, behind-drop, chosen, chosen-in, chosen-fewest, chosen-longest, shortest-cons}
-use Rattle.search_area.specs.Answers.{NextMatch, Within, LongerMatch}
+use Rattle.search_area.specs.Answers.{Within, LongerMatch}
 use Rattle.built.specs.Built.{dictionaryOf, Built}
 use Rattle.built.proofs.Rows.{octets, count-is, row-bytes, lawful-is, known}
 use Rattle.shortest_encoder.specs.Entries.{entry, countFrom, AreEntries, EntryReady, EntryIs}
@@ -29,9 +29,6 @@ Bytes text = (k : ℕ) → getD text k 0 < 256
 
 pub bytes-drop : (text : List ℕ) (i : ℕ) → Bytes text → Octets (drop i text)
 bytes-drop text i o = octets (drop i text) (λ k. rw (getD-drop i text k 0) (o (i + k)))
-
-pub found : (file places : List ℕ) (n : ℕ) (area t : List ℕ) (r l : ℕ) → NextMatch file places n area t r l → (r ≡ none → ⊥) → (r < n) × (0 < l)
-found file places n area t r l m s = ⊎-elim (λ e. absurd (s (e .0))) (λ q. q) (m .bound)
 
 -- how many codes a row of l bytes at place i makes, with those behind it
 abbrev codesWith : List ℕ → ℕ → ℕ → ℕ → ℕ

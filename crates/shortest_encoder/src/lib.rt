@@ -107,7 +107,7 @@ pub fn encode_minimal_core(
     read_codes(file, places, n, text, work, out)
 }
 
-// The longest row at each place into out, and how many.
+// The longest row at each place into out, and how many. The rows at a place are tried, shortest first, until none is longer or the text ends.
 pub fn encode_greedy_core(
     file: &[u8],
     places: &[u32],
@@ -120,15 +120,29 @@ pub fn encode_greedy_core(
     ensures { λ r. ⌜ GreedyIs (now (file .entry)) (now (places .entry)) (now (area .entry)) n (now (text .entry)) (now (out .entry)) (now (out .exit)) r ⌝ }
 {
     let mut at = 0;
+    let mut row = NONE;
+    let mut len = 0;
     let mut count = 0;
-    while at < text.len() {
-        let next = search_area::next_match(file, places, n, area, text, at);
-        if next.row == NONE {
+    while at + len < text.len() {
+        let longer = search_area::longer_match(file, places, n, area, row, len, text, at);
+        if longer.row != NONE {
+            row = longer.row;
+            len = longer.len;
+            continue;
+        }
+        if row == NONE {
+            // Never on the tables of a build: each byte has a row.
             return count;
         }
-        out[count] = next.row;
+        out[count] = row;
         count += 1;
-        at += next.len;
+        at += len;
+        row = NONE;
+        len = 0;
     }
-    count
+    if row == NONE {
+        return count;
+    }
+    out[count] = row;
+    count + 1
 }

@@ -11,9 +11,9 @@ use Rattle.placed_rows.specs.Rows.{row}
 use Rattle.placed_rows.specs.Texts.{Small}
 use Rattle.tables.specs.Ready.{PartsReady}
 use Rattle.bitfield.specs.Bits.{isSet}
-use Rattle.token_pair.specs.Pair.{PairReady, PairIs}
+use Rattle.token_pair.specs.Pair.{PairReady, PassIs}
 use Rattle.built.specs.Built.{dictionaryOf}
-use Rattle.built.proofs.Rows.{pair-is}
+use Rattle.built.proofs.Rows.{pass-is}
 use Rattle.backtrack_encoder.specs.declared.BacktrackEncoder.{BacktrackEncoder}
 use Rattle.backtrack_encoder.specs.Encoder.{RowsReady, stackOf, EncoderReady, Shows}
 use Rattle.backtrack_encoder.specs.Steps.{EndsIn, FitsIs}
@@ -77,13 +77,13 @@ module _ (file places lefts rights area : List ℕ) (n : ℕ) (text : List ℕ) 
   }
 
   -- there is a code before it
-  pub fits-pair : (r : Bool) → e .pos + l ≤ length text → isSet dead (e .pos + l) ≡ true → (e .count ≡ 0 → ⊥) → PairIs file places lefts rights area n n (getD work (e .count - 1) 0) c r
+  pub fits-pair : (r : Bool) → e .pos + l ≤ length text → isSet dead (e .pos + l) ≡ true → (e .count ≡ 0 → ⊥) → PassIs file places lefts rights area n n (getD work (e .count - 1) 0) c r
       → FitsIs file places lefts rights area n text e work dead c r
   fits-pair r i d some p = record {
     ends = λ _. ends i;
     built = λ prefixes B s v _.
         let f : r ≡ follows (dictionaryOf file) (s .stack) c =
-        pair-is file places lefts rights prefixes area n B (getD work (e .count - 1) 0) c r p
+        pass-is file places lefts rights prefixes area n B (getD work (e .count - 1) 0) c r p
         ∙ sym (ap (λ (K : List ℕ). follows (dictionaryOf file) K c) (v .stack ∙ stack-last work (e .count) some)) in
         f ∙ and-true (follows (dictionaryOf file) (s .stack) c) _ (sym (end-bit s v i) ∙ d);
   }

@@ -16,7 +16,7 @@ use placed_rows::NONE;
 use placed_rows::length_of;
 use placed_rows::wide;
 use search_area::next_match;
-use token_pair::is_valid_pair_below;
+use token_pair::is_valid_pair;
 
 // The number of codes so far, the place that they reach, and the next row to try, NONE where nothing is left to try. The codes
 // stand at the front of a lent work buffer. The places that are not dead are the set bits of 65 words.
@@ -62,7 +62,7 @@ fn fits(
     }
     let at = encoder.count - 1;
     let last = work[at];
-    is_valid_pair_below(file, places, lefts, rights, area, n, n as u32, last, token)
+    is_valid_pair(file, places, lefts, rights, area, n, n as u32, last, token)
 }
 
 // The first that fits along the next row, its prefix, the prefix of that and so on, or NONE.

@@ -18,7 +18,7 @@ use Rattle.theory.specs.Parts.{dictionary}
 use Rattle.theory.proofs.PairCheck.{Lawful}
 use Rattle.theory.proofs.Accepted.{lawful, known-text}
 use Rattle.tables.specs.Ready.{PlacesReady}
-use Rattle.token_pair.specs.Pair.{Distinct, Tells, PairIs}
+use Rattle.token_pair.specs.Pair.{Distinct, Tells, PairIs, PassIs}
 use Rattle.built.specs.Built.{dictionaryOf, Built}
 
 -- a list of numbers below 256 is a text
@@ -99,3 +99,7 @@ module _ (file placeTable lefts rights prefixes area : List ℕ) (n : ℕ) (B : 
   -- the pair check over the tables is the dictionary's
   pub pair-is : (u v : ℕ) (r : Bool) → PairIs file placeTable lefts rights area n n u v r → r ≡ passes (dictionaryOf file) (dictionaryOf file .count) u v
   pair-is u v r p = p .passes-is (dictionaryOf file) tells distinct-rows (B .finds) (B .pairs-marked) ∙ ap (λ (q : ℕ). passes (dictionaryOf file) q u v) (sym count-is)
+
+  -- and so is the one that looks at the seam first
+  pub pass-is : (u v : ℕ) (r : Bool) → PassIs file placeTable lefts rights area n n u v r → r ≡ passes (dictionaryOf file) (dictionaryOf file .count) u v
+  pass-is u v r p = p .passes-is (dictionaryOf file) tells distinct-rows (B .finds) (B .pairs-marked) (B .seams-marked) ∙ ap (λ (q : ℕ). passes (dictionaryOf file) q u v) (sym count-is)

@@ -9,13 +9,13 @@ use Rattle.phrase_file.specs.Checks.{checkOf}
 use Rattle.theory.specs.Dictionary.{Dictionary}
 use Rattle.theory.specs.Parts.{Accepted, dictionary, prefix}
 use Rattle.search_area.specs.Area.{Finds}
-use Rattle.token_pair.specs.Pair.{PairsMarked}
+use Rattle.token_pair.specs.Pair.{PairsMarked, SeamsMarked}
 
 -- the dictionary of a file's rows
 unfoldable pub dictionaryOf : List ℕ → Dictionary
 dictionaryOf file = dictionary (rows file)
 
--- the file is accepted, the first n entries of each table are the definitions', and the search area finds every row and has every pair marked
+-- the file is accepted, the first n entries of each table are the definitions', and the search area finds every row and has every pair and every seam marked
 pub record Built (file placeTable lefts rights prefixes area : List ℕ) (n : ℕ) : Type 0 where
   pub passed : checkOf file ≡ Rows n
   pub accepted : Accepted (rows file)
@@ -29,3 +29,4 @@ pub record Built (file placeTable lefts rights prefixes area : List ℕ) (n : �
   pub area-room : 16384 ≤ length area
   pub finds : Finds file placeTable n area
   pub pairs-marked : PairsMarked lefts rights area n
+  pub seams-marked : SeamsMarked file lefts area n

@@ -65,7 +65,7 @@ module _ (file placeTable prefixes area : List ℕ) (factor n : ℕ) (R : RowsFi
       pub search-fills : (prefixes' area' : List ℕ) → Filled file placeTable' n prefixes area₁ prefixes' area' → RowsFilled file factor n placeTable prefixes area placeTable' prefixes' area' clash
       search-fills prefixes' area' F =
           filled prefixes' area' (λ l. searched file placeTable' prefixes area₁ prefixes' area' factor n (R .passed) written (omega (arith, same)) (R .prefixes-room) area-room F)
-          (F .prefixes-filled .prefixes-length) (F .area-filled .area-length) (F .prefixes-filled .prefixes-beyond) (sym (drop-drop 8704 7680 area') ∙ ap (drop 8704) (F .area-filled .area-beyond) ∙ drop-drop 8704 7680 area₁)
+          (F .prefixes-filled .prefixes-length) (F .area-filled .area-length) (F .prefixes-filled .prefixes-beyond) (sym (drop-drop 3840 12544 area') ∙ ap (drop 3840) (F .area-filled .area-beyond) ∙ drop-drop 3840 12544 area₁)
 
 module _ (file placeTable lefts rights prefixes area : List ℕ) (factor n : ℕ) (A : Buildable file factor (lent placeTable lefts rights prefixes area) n) where
   abbrev b : Buffers

@@ -94,4 +94,5 @@ module _ (file table prefixes area lefts rights lefts' rights' area' : List ℕ)
     area-room = still .area-room;
     finds = still .finds;
     pairs-marked = λ c h. P .known .pairs-marked c (omega arith);
+    seams-marked = λ c h. P .known .seams-marked c (omega arith);
   }

@@ -10,13 +10,13 @@ use Rattle.forest.specs.Words.{Mem, In, Indexed}
 use Rattle.forest.specs.Growth.{cleared}
 use Rattle.forest.proofs.Walking.{walk-out}
 
-pub length-cleared : (half : List ℕ) → 3584 ≤ length half → length (cleared half) ≡ length half
+pub length-cleared : (half : List ℕ) → 8448 ≤ length half → length (cleared half) ≡ length half
 unfolding cleared
-length-cleared half h = length-append (replicate 3584 none) (drop 3584 half) ∙ omega (arith, length-replicate 3584 none, length-drop 3584 half)
+length-cleared half h = length-append (replicate 8448 none) (drop 8448 half) ∙ omega (arith, length-replicate 8448 none, length-drop 8448 half)
 
-head-none : (half : List ℕ) (h : ℕ) → h < 3584 → getD (cleared half) h 0 ≡ none
+head-none : (half : List ℕ) (h : ℕ) → h < 8448 → getD (cleared half) h 0 ≡ none
 unfolding cleared
-head-none half h l = List·getD-append (replicate 3584 none) (drop 3584 half) 0 h (omega (arith, length-replicate 3584 none)) ∙ getD-replicate 3584 h none 0 l
+head-none half h l = List·getD-append (replicate 8448 none) (drop 8448 half) 0 h (omega (arith, length-replicate 8448 none)) ∙ getD-replicate 8448 h none 0 l
 
 pub cleared-none : (R : ℕ → List ℕ) (n : ℕ) (half : List ℕ) (S : ℕ → Bool) → R none ≡ [] → n ≤ 4096 → ((d : ℕ) → In S d → ⊥) → Indexed R n (cleared half) S
 cleared-none R n half S root N void = record {

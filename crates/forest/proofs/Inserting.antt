@@ -34,7 +34,7 @@ par-new par c p = rw (eq-eqb c c refl, par-with)
 par-old : (par : ℕ → ℕ) (c p d : ℕ) → (d ≡ c → ⊥) → par-with par c p d ≡ par d
 par-old par c p d h = rw (ne-eqb d c h, par-with)
 
-module _ (R : ℕ → List ℕ) (n : ℕ) (half : List ℕ) (S : ℕ → Bool) (I : Indexed R n half S) (c p : ℕ) (A : 7680 ≤ length half)
+module _ (R : ℕ → List ℕ) (n : ℕ) (half : List ℕ) (S : ℕ → Bool) (I : Indexed R n half S) (c p : ℕ) (A : 12544 ≤ length half)
     (F : Fresh R n S c) (L : Longest R (In S) (R c) p) where
   abbrev par' : ℕ → ℕ
   par' = par-with (I .par) c p
@@ -101,7 +101,7 @@ module _ (R : ℕ → List ℕ) (n : ℕ) (half : List ℕ) (S : ℕ → Bool) (
       new d e = rw (e, par-new (I .par) c p) prefix-new
 
 -- row c goes under p: the byte beyond p, with which p is marked, tells its bucket
-module _ (R : ℕ → List ℕ) (n : ℕ) (half : List ℕ) (S : ℕ → Bool) (I : Indexed R n half S) (c p : ℕ) (A : 7680 ≤ length half)
+module _ (R : ℕ → List ℕ) (n : ℕ) (half : List ℕ) (S : ℕ → Bool) (I : Indexed R n half S) (c p : ℕ) (A : 12544 ≤ length half)
     (F : Fresh R n S c) (L : Longest R (In S) (R c) p) (Q : getD (R c) (length (R p)) 0 < 256) (M : marked half marksFrom (childKey p (getD (R c) (length (R p)) 0)) ≡ true) where
   abbrev parents : ℕ → ℕ
   parents = par-with (I .par) c p
@@ -126,7 +126,7 @@ module _ (R : ℕ → List ℕ) (n : ℕ) (half : List ℕ) (S : ℕ → Bool) (
   C : c < 4096
   C = let z = F .below in let f = I .few in omega arith
 
-  H : B < 2560
+  H : B < 4352
   H = bucket-small p (getD (R c) (length (R p)) 0) Q
 
   W-row : W % 8192 ≡ c
@@ -136,7 +136,7 @@ module _ (R : ℕ → List ℕ) (n : ℕ) (half : List ℕ) (S : ℕ → Bool) (
   abbrev Old : ℕ → ℕ → Type 0
   Old g v = Entry R (I .par) S g v
 
-  old : (g k v : ℕ) → g < 2560 → k ≤ n → Mem v (walk n half k (getD half g 0)) → Old g v
+  old : (g k v : ℕ) → g < 4352 → k ≤ n → Mem v (walk n half k (getD half g 0)) → Old g v
   old g k v l h m = I .only g v l (walk-more n half k n (getD half g 0) v h m)
 
   old-row : (g v : ℕ) (E : Old g v) → v % 8192 ≡ E .row
@@ -168,13 +168,13 @@ module _ (R : ℕ → List ℕ) (n : ℕ) (half : List ℕ) (S : ℕ → Bool) (
           record { below = omega arith; no-mark = λ z. omega arith; apart = λ z. omega arith; row = C; room = A }
 
   -- heads and links of the half with one word more
-  head-other : (g : ℕ) → g < 2560 → (g ≡ at → ⊥) → getD half' g 0 ≡ getD half g 0
+  head-other : (g : ℕ) → g < 4352 → (g ≡ at → ⊥) → getD half' g 0 ≡ getD half g 0
   head-other g l e = put-other half at c W place g e (λ z. omega arith)
 
   head-in : first % 8192 < n → getD half' B 0 ≡ first
   head-in l = head-other B H (λ z. omega (arith, H, place-in half n B l))
 
-  link-in : first % 8192 < n → getD half' (3584 + first % 8192) 0 ≡ W
+  link-in : first % 8192 < n → getD half' (8448 + first % 8192) 0 ≡ W
   link-in l = ap (λ (i : ℕ). getD half' i 0) (sym (place-in half n B l)) ∙ put-at half at c W place
 
   head-out : n ≤ first % 8192 → getD half' B 0 ≡ W
@@ -183,7 +183,7 @@ module _ (R : ℕ → List ℕ) (n : ℕ) (half : List ℕ) (S : ℕ → Bool) (
   room : count S n < n
   room = let z = count-more S c n (F .below) (F .new) in let w = count-le (with-row S c) n in omega arith
 
-  listed-at : (v g : ℕ) → g < 2560 → Mem v (walk n half (count S n) (getD half g 0)) → Mem v (walk n half' (suc (count S n)) (getD half' g 0))
+  listed-at : (v g : ℕ) → g < 4352 → Mem v (walk n half (count S n) (getD half g 0)) → Mem v (walk n half' (suc (count S n)) (getD half' g 0))
   listed-at v g l m =
       still-met n half at c W place (F .below) W-row (count S n) g v (λ z. omega arith)
       (λ u p. not-c g u (old g (count S n) u l (let r = room in omega arith) p)) m
@@ -229,13 +229,13 @@ module _ (R : ℕ → List ℕ) (n : ℕ) (half : List ℕ) (S : ℕ → Bool) (
   }
 
   -- another bucket has what it had
-  only-other : (g v : ℕ) → g < 2560 → (g ≡ B → ⊥) → Mem v (walk n half' n (getD half' g 0)) → Old g v
+  only-other : (g v : ℕ) → g < 4352 → (g ≡ B → ⊥) → Mem v (walk n half' n (getD half' g 0)) → Old g v
   only-other g v l e m = go (decLt (first % 8192) n)
     where
       had : (u : ℕ) → Mem u (walk n half n (getD half g 0)) → Old g u
       had u q = old g n u l (omega arith) q
 
-      kept-walk : (g ≡ at → ⊥) → ((u : ℕ) → Mem u (walk n half n (getD half g 0)) → 3584 + u % 8192 ≡ at → ⊥) → Old g v
+      kept-walk : (g ≡ at → ⊥) → ((u : ℕ) → Mem u (walk n half n (getD half g 0)) → 8448 + u % 8192 ≡ at → ⊥) → Old g v
       kept-walk f h = had v (no-more n half at c W place (F .below) W-row n (getD half g 0) v (λ u q. not-c g u (had u q)) h (rw (head-other g l f) at m))
 
       go : Dec (first % 8192 < n) → Old g v
@@ -259,7 +259,7 @@ module _ (R : ℕ → List ℕ) (n : ℕ) (half : List ℕ) (S : ℕ → Bool) (
           (met n half' k first v (rw (head-in l) at m) .1)
       go (no l) = behind-W (suc k) (λ u r. old B (suc k) u H h (rw (place-out half n B (omega arith)) at r)) (rw (head-out (omega arith)) at m)
 
-  only-at : (g v : ℕ) → g < 2560 → Mem v (walk n half' n (getD half' g 0)) → Entry R parents (with-row S c) g v
+  only-at : (g v : ℕ) → g < 4352 → Mem v (walk n half' n (getD half' g 0)) → Entry R parents (with-row S c) g v
   only-at g v l m = go (ℕ-discrete g B)
     where
       go : Dec (g ≡ B) → Entry R parents (with-row S c) g v
@@ -291,7 +291,7 @@ module _ (R : ℕ → List ℕ) (n : ℕ) (half : List ℕ) (S : ℕ → Bool) (
       still d s = rw (kept d s) (listed-at (wordOf R (I .par) d) (home R (I .par) d) (bucket-small (I .par d) (byteOf R (I .par) d) (I .bytes d s)) (I .listed d s))
 
 -- the descent from the root along t, the bytes of row c
-module _ (R : ℕ → List ℕ) (n : ℕ) (half : List ℕ) (c : ℕ) (t : List ℕ) (p k : ℕ) (A : 7680 ≤ length half) (e : t ≡ R c) (D : Descent R n half none 0 t p k) where
+module _ (R : ℕ → List ℕ) (n : ℕ) (half : List ℕ) (c : ℕ) (t : List ℕ) (p k : ℕ) (A : 12544 ≤ length half) (e : t ≡ R c) (D : Descent R n half none 0 t p k) where
   from-root : (S : ℕ → Bool) → Indexed R n half S → Longest R (In S) (R c) p × (k ≡ length (R p))
   from-root S I = rw (I .forest .root, e) at (D .longest S (record { index = I; known = inl refl; size = sym (ap length (I .forest .root)) }))
 

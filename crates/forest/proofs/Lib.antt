@@ -10,3 +10,4 @@ pub mod Passing
 pub mod Marking
 pub mod Inserting
 pub mod Emptying
+pub mod Places

@@ -4,6 +4,7 @@ use mathlib.Core.Logic.{_⊎_, inl, inr}
 use Prim.Native.Nat.{ℕ, _%_, _<_}
 use native.Mathlib.Omega.{arith}
 use Rattle.placed_rows.specs.Rows.{none}
+use Rattle.marks.specs.Marks.{bitKey}
 use Rattle.forest.specs.Words.{word, row-of, code, code-of, len-of, bucketOf, childKey}
 
 pub word-row : (d q l : ℕ) → d < 8192 → row-of (word d q l) ≡ d
@@ -18,7 +19,7 @@ pub word-len : (d q l : ℕ) → d < 8192 → 0 < l → len-of (word d q l) ≡ 
 unfolding word
 word-len d q l h k = omega arith
 
-pub bucket-small : (q b : ℕ) → b < 256 → bucketOf q b < 2560
+pub bucket-small : (q b : ℕ) → b < 256 → bucketOf q b < 4352
 unfolding bucketOf
 bucket-small q b h = omega arith
 
@@ -26,9 +27,9 @@ pub bucket-byte : (q b c : ℕ) → bucketOf q b ≡ bucketOf q c → b ≡ c
 unfolding bucketOf
 bucket-byte q b c h = omega arith
 
--- a key is one of 1,048,576, in 1,024 numbers
-pub key-small : (q b : ℕ) → childKey q b < 1048576
-unfolding childKey
+-- a key is one of 4,194,304, in 4,096 numbers
+pub key-small : (q b : ℕ) → childKey q b < 4194304
+unfolding childKey bitKey
 key-small q b = omega arith
 
 -- none and the rows have codes of their own

@@ -17,7 +17,7 @@ module _ (n : ℕ) (half : List ℕ) (a c w : ℕ) (P : Place half a c) (B : c <
 
   -- the link of x, and the word that stood at a
   abbrev link : ℕ → ℕ
-  link x = getD half (3584 + x % 8192) 0
+  link x = getD half (8448 + x % 8192) 0
 
   abbrev stood : ℕ
   stood = getD half a 0
@@ -26,14 +26,14 @@ module _ (n : ℕ) (half : List ℕ) (a c w : ℕ) (P : Place half a c) (B : c <
   abbrev Clear : ℕ → ℕ → Type 0
   Clear k x = (u : ℕ) → Mem u (walk n half k x) → u % 8192 ≡ c → ⊥
 
-  link-w : getD half' (3584 + w % 8192) 0 ≡ stood
-  link-w = ap (λ (i : ℕ). getD half' (3584 + i) 0) E ∙ put-link half a c w P
+  link-w : getD half' (8448 + w % 8192) 0 ≡ stood
+  link-w = ap (λ (i : ℕ). getD half' (8448 + i) 0) E ∙ put-link half a c w P
 
   clear-next : (k x : ℕ) → x % 8192 < n → Clear (suc k) x → Clear k (link x)
   clear-next k x l f u m = f u (meet-next n half k x u l m)
 
-  kept-link : (k x : ℕ) → x % 8192 < n → Clear (suc k) x → (3584 + x % 8192 ≡ a → ⊥) → getD half' (3584 + x % 8192) 0 ≡ link x
-  kept-link k x l f e = put-other half a c w P (3584 + x % 8192) e (λ z. f x (meet-first n half k x l) (omega arith))
+  kept-link : (k x : ℕ) → x % 8192 < n → Clear (suc k) x → (8448 + x % 8192 ≡ a → ⊥) → getD half' (8448 + x % 8192) 0 ≡ link x
+  kept-link k x l f e = put-other half a c w P (8448 + x % 8192) e (λ z. f x (meet-first n half k x l) (omega arith))
 
   -- a walk that comes to a goes on from the word that stood there with fewer steps left
   again : (k x v : ℕ) → Clear k x → Mem v (walk n half k x) → Mem v (walk n half' k x) ⊎ Mem v (walk n half' k stood)
@@ -44,7 +44,7 @@ module _ (n : ℕ) (half : List ℕ) (a c w : ℕ) (P : Place half a c) (B : c <
       more : Mem v (walk n half' k stood) → Mem v (walk n half' (suc k) stood)
       more = walk-more n half' k (suc k) stood v (omega arith)
 
-      turn : x % 8192 < n → Dec (3584 + x % 8192 ≡ a) → Mem v (walk n half' k (link x)) ⊎ Mem v (walk n half' k stood)
+      turn : x % 8192 < n → Dec (8448 + x % 8192 ≡ a) → Mem v (walk n half' k (link x)) ⊎ Mem v (walk n half' k stood)
           → Mem v (walk n half' (suc k) x) ⊎ Mem v (walk n half' (suc k) stood)
       turn l (yes e) (inl y) = inr (more (rw e at y))
       turn l (no e) (inl y) = inl (meet-next n half' k x v l (rw (kept-link k x l f e) y))
@@ -54,14 +54,14 @@ module _ (n : ℕ) (half : List ℕ) (a c w : ℕ) (P : Place half a c) (B : c <
           → (Clear k (link x) → Mem v (walk n half k (link x)) → Mem v (walk n half' k (link x)) ⊎ Mem v (walk n half' k stood))
           → Mem v (walk n half' (suc k) x) ⊎ Mem v (walk n half' (suc k) stood)
       go (l, inl e) ih = inl (rw e (meet-first n half' k x l))
-      go (l, inr y) ih = turn l (ℕ-discrete (3584 + x % 8192) a) (ih (clear-next k x l f) y)
+      go (l, inr y) ih = turn l (ℕ-discrete (8448 + x % 8192) a) (ih (clear-next k x l f) y)
 
   -- from w on, the walk meets what it met from the word that stood at a
   behind : (k v : ℕ) → Clear k stood → Mem v (walk n half k stood) → Mem v (walk n half' (suc k) w)
   behind k v f m = meet-next n half' k w v (omega arith) (rw link-w (⊎-elim (λ y. y) (λ y. y) (again k stood v f m)))
 
   -- so does the walk from what stands at a place g, where the walk from what stood there does
-  through : (k g v : ℕ) → (g ≡ 3584 + c → ⊥) → Clear k (getD half g 0) → Mem v (walk n half k (getD half g 0)) → Mem v (walk n half' (suc k) (getD half g 0))
+  through : (k g v : ℕ) → (g ≡ 8448 + c → ⊥) → Clear k (getD half g 0) → Mem v (walk n half k (getD half g 0)) → Mem v (walk n half' (suc k) (getD half g 0))
       → Mem v (walk n half' (suc k) (getD half' g 0))
   through k g v h f m y = go (ℕ-discrete g a)
     where
@@ -81,19 +81,19 @@ module _ (n : ℕ) (half : List ℕ) (a c w : ℕ) (P : Place half a c) (B : c <
       go (l, inl e) ih = rw e (meet-first n half' (suc k) x l)
       go (l, inr y) ih =
           let f' = clear-next k x l f in
-          meet-next n half' (suc k) x v l (through k (3584 + x % 8192) v (λ z. f x (meet-first n half k x l) (omega arith)) f' y (ih f' y))
+          meet-next n half' (suc k) x v l (through k (8448 + x % 8192) v (λ z. f x (meet-first n half k x l) (omega arith)) f' y (ih f' y))
 
-  pub still-met : (k g v : ℕ) → (g ≡ 3584 + c → ⊥) → Clear k (getD half g 0) → Mem v (walk n half k (getD half g 0)) → Mem v (walk n half' (suc k) (getD half' g 0))
+  pub still-met : (k g v : ℕ) → (g ≡ 8448 + c → ⊥) → Clear k (getD half g 0) → Mem v (walk n half k (getD half g 0)) → Mem v (walk n half' (suc k) (getD half' g 0))
   still-met k g v h f m = through k g v h f m (one-more k (getD half g 0) v f m)
 
   -- a walk that came neither to a nor to row c meets nothing else
-  pub no-more : (k x v : ℕ) → Clear k x → ((u : ℕ) → Mem u (walk n half k x) → 3584 + u % 8192 ≡ a → ⊥) → Mem v (walk n half' k x) → Mem v (walk n half k x)
+  pub no-more : (k x v : ℕ) → Clear k x → ((u : ℕ) → Mem u (walk n half k x) → 8448 + u % 8192 ≡ a → ⊥) → Mem v (walk n half' k x) → Mem v (walk n half k x)
   unfolding walk
   no-more zero x v f h m = absurd m
   no-more (suc k) x v f h m = go (met n half' k x v m) (no-more k (link x) v)
     where
-      go : (x % 8192 < n) × ((v ≡ x) ⊎ Mem v (walk n half' k (getD half' (3584 + x % 8192) 0)))
-          → (Clear k (link x) → ((u : ℕ) → Mem u (walk n half k (link x)) → 3584 + u % 8192 ≡ a → ⊥) → Mem v (walk n half' k (link x)) → Mem v (walk n half k (link x)))
+      go : (x % 8192 < n) × ((v ≡ x) ⊎ Mem v (walk n half' k (getD half' (8448 + x % 8192) 0)))
+          → (Clear k (link x) → ((u : ℕ) → Mem u (walk n half k (link x)) → 8448 + u % 8192 ≡ a → ⊥) → Mem v (walk n half' k (link x)) → Mem v (walk n half k (link x)))
           → Mem v (walk n half (suc k) x)
       go (l, inl e) ih = rw e (meet-first n half k x l)
       go (l, inr y) ih =
@@ -113,20 +113,20 @@ module _ (n : ℕ) (half : List ℕ) (a c w : ℕ) (P : Place half a c) (B : c <
     of-kind zero x v s f m = absurd m
     of-kind (suc k) x v s f m = go f (met n half' k x v m) (λ y. of-kind k y v (fewer k stood s))
       where
-        turn : x % 8192 < n → All (suc k) x → Dec (3584 + x % 8192 ≡ a) → Mem v (walk n half' k (getD half' (3584 + x % 8192) 0))
+        turn : x % 8192 < n → All (suc k) x → Dec (8448 + x % 8192 ≡ a) → Mem v (walk n half' k (getD half' (8448 + x % 8192) 0))
             → ((y : ℕ) → (y ≡ w) ⊎ All k y → Mem v (walk n half' k y) → (v ≡ w) ⊎ K v)
             → (v ≡ w) ⊎ K v
         turn l g (yes e) y ih = ih w (inl refl) (rw (e, put-at half a c w P) at y)
         turn l g (no e) y ih =
             ih (link x) (inr (λ u p. g u (meet-next n half k x u l p))) (rw (kept-link k x l (λ u p. N u (g u p)) e) at y)
 
-        go : (x ≡ w) ⊎ All (suc k) x → (x % 8192 < n) × ((v ≡ x) ⊎ Mem v (walk n half' k (getD half' (3584 + x % 8192) 0)))
+        go : (x ≡ w) ⊎ All (suc k) x → (x % 8192 < n) × ((v ≡ x) ⊎ Mem v (walk n half' k (getD half' (8448 + x % 8192) 0)))
             → ((y : ℕ) → (y ≡ w) ⊎ All k y → Mem v (walk n half' k y) → (v ≡ w) ⊎ K v)
             → (v ≡ w) ⊎ K v
         go (inl q) (l, inl e) ih = inl (e ∙ q)
         go (inr g) (l, inl e) ih = inr (rw e (g x (meet-first n half k x l)))
         go (inl q) (l, inr y) ih = ih stood (inr (fewer k stood s)) (rw (q, link-w) at y)
-        go (inr g) (l, inr y) ih = turn l g (ℕ-discrete (3584 + x % 8192) a) y ih
+        go (inr g) (l, inr y) ih = turn l g (ℕ-discrete (8448 + x % 8192) a) y ih
 
     pub from-w : (k v : ℕ) → All k stood → Mem v (walk n half' k w) → (v ≡ w) ⊎ K v
     from-w k v s m = of-kind k w v s (inl refl) m

@@ -12,7 +12,7 @@ use Rattle.forest.specs.Words.{row-of, marksFrom}
 use Rattle.forest.specs.Growth.{placeOf, put}
 
 -- the place of a bucket that has a word, and of an empty one
-pub place-in : (half : List ℕ) (n h : ℕ) → row-of (getD half h 0) < n → placeOf half n h ≡ 3584 + row-of (getD half h 0)
+pub place-in : (half : List ℕ) (n h : ℕ) → row-of (getD half h 0) < n → placeOf half n h ≡ 8448 + row-of (getD half h 0)
 unfolding placeOf
 place-in half n h l = rw (lt-ltb (row-of (getD half h 0)) n l, placeOf)
 
@@ -22,34 +22,34 @@ place-out half n h l = rw (le-ltb (row-of (getD half h 0)) n l, placeOf)
 
 pub length-put : (half : List ℕ) (a c w : ℕ) → length (put half a c w) ≡ length half
 unfolding put
-length-put half a c w = length-set (set half (3584 + c) (getD half a 0)) a w ∙ length-set half (3584 + c) (getD half a 0)
+length-put half a c w = length-set (set half (8448 + c) (getD half a 0)) a w ∙ length-set half (8448 + c) (getD half a 0)
 
 -- a is a head or a link of the half, and not the link of row c
 pub record Place (half : List ℕ) (a c : ℕ) : Type 0 where
-  pub below : a < 7680
-  pub no-mark : 2560 ≤ a → 3584 ≤ a
-  pub apart : a ≡ 3584 + c → ⊥
+  pub below : a < 12544
+  pub no-mark : 4352 ≤ a → 8448 ≤ a
+  pub apart : a ≡ 8448 + c → ⊥
   pub row : c < 4096
-  pub room : 7680 ≤ length half
+  pub room : 12544 ≤ length half
 
 module _ (half : List ℕ) (a c w : ℕ) (P : Place half a c) where
   pub put-at : getD (put half a c w) a 0 ≡ w
   unfolding put
-  put-at = getD-set-same (set half (3584 + c) (getD half a 0)) a w 0 (omega (arith, P .below, P .room, length-set half (3584 + c) (getD half a 0)))
+  put-at = getD-set-same (set half (8448 + c) (getD half a 0)) a w 0 (omega (arith, P .below, P .room, length-set half (8448 + c) (getD half a 0)))
 
-  pub put-link : getD (put half a c w) (3584 + c) 0 ≡ getD half a 0
+  pub put-link : getD (put half a c w) (8448 + c) 0 ≡ getD half a 0
   unfolding put
   put-link =
-      getD-set-other (set half (3584 + c) (getD half a 0)) a (3584 + c) w 0 (λ z. P .apart (sym z))
-      ∙ getD-set-same half (3584 + c) (getD half a 0) 0 (omega (arith, P .row, P .room))
+      getD-set-other (set half (8448 + c) (getD half a 0)) a (8448 + c) w 0 (λ z. P .apart (sym z))
+      ∙ getD-set-same half (8448 + c) (getD half a 0) 0 (omega (arith, P .row, P .room))
 
-  pub put-other : (x : ℕ) → (x ≡ a → ⊥) → (x ≡ 3584 + c → ⊥) → getD (put half a c w) x 0 ≡ getD half x 0
+  pub put-other : (x : ℕ) → (x ≡ a → ⊥) → (x ≡ 8448 + c → ⊥) → getD (put half a c w) x 0 ≡ getD half x 0
   unfolding put
-  put-other x e f = getD-set-other (set half (3584 + c) (getD half a 0)) a x w 0 e ∙ getD-set-other half (3584 + c) x (getD half a 0) 0 f
+  put-other x e f = getD-set-other (set half (8448 + c) (getD half a 0)) a x w 0 e ∙ getD-set-other half (8448 + c) x (getD half a 0) 0 f
 
   -- the marks stay
-  pub marks-keep : (k : ℕ) → k < 1048576 → marked (put half a c w) marksFrom k ≡ marked half marksFrom k
+  pub marks-keep : (k : ℕ) → k < 4194304 → marked (put half a c w) marksFrom k ≡ marked half marksFrom k
   marks-keep k l = marked-same half marksFrom (put half a c w) k (kept (marksFrom + k / 1024) (omega arith) (omega arith))
     where
-      kept : (i : ℕ) → 2560 ≤ i → i < 3584 → getD (put half a c w) i 0 ≡ getD half i 0
+      kept : (i : ℕ) → 4352 ≤ i → i < 8448 → getD (put half a c w) i 0 ≡ getD half i 0
       kept i l h = put-other i (λ z. omega (arith, P .no-mark (omega arith))) (λ z. omega arith)

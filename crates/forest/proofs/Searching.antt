@@ -130,7 +130,7 @@ module _ (R : ℕ → List ℕ) (n : ℕ) (half : List ℕ) (p len : ℕ) (rest 
   }
 
   pub search-step : (x i k : ℕ) → i ≡ row-of x → 0 < k → i < n → Fits R n p len rest x false → Search R n half p len rest x k
-      → Search R n half p len rest (getD half (3584 + i) 0) (k - 1)
+      → Search R n half p len rest (getD half (8448 + i) 0) (k - 1)
   search-step x i k ix h l miss s = rw ix (record {
     kept = λ w m. s .kept w (rw (walk-left n half k x h (omega arith)) (inr m));
     left = λ S a d g. ⊎-elim (λ z. absurd (no S a d g z)) (λ z. z) (rw (walk-left n half k x h (omega arith)) at (s .left S a d g));

@@ -14,7 +14,7 @@ use Rattle.forest.specs.Words.{walk, Mem, count}
 module _ (n : ℕ) (half : List ℕ) where
   -- the walk from the word after x
   abbrev next : ℕ → ℕ → List ℕ
-  next k x = walk n half k (getD half (3584 + x % 8192) 0)
+  next k x = walk n half k (getD half (8448 + x % 8192) 0)
 
   pub walk-out : (k x : ℕ) → n ≤ x % 8192 → walk n half k x ≡ []
   unfolding walk
@@ -38,7 +38,7 @@ module _ (n : ℕ) (half : List ℕ) where
   unfolding walk
   walk-more zero m x w h y = absurd y
   walk-more (suc k) zero x w h y = absurd (omega arith)
-  walk-more (suc k) (suc m) x w h y = go (ltb (x % 8192) n) refl (walk-more k m (getD half (3584 + x % 8192) 0) w (omega arith))
+  walk-more (suc k) (suc m) x w h y = go (ltb (x % 8192) n) refl (walk-more k m (getD half (8448 + x % 8192) 0) w (omega arith))
     where
       go : (b : Bool) → ltb (x % 8192) n ≡ b → (Mem w (next k x) → Mem w (next m x)) → Mem w (walk n half (suc m) x)
       go true e ih =

@@ -62,10 +62,6 @@ pub record OneLonger (n w p len : ℕ) : Type 0 where
   pub one : len-of w ≡ len + 1
   pub short : len-of w < 65
 
--- r is none, or the root's child that goes on as text does, and l its length
-abbrev pub OneByte : (ℕ → List ℕ) → ℕ → List ℕ → List ℕ → ℕ → ℕ → Type 0
-OneByte R n half text r l = (r ≡ none → ⊥) → ChildIs R n half none 0 text r l
-
 -- r is the longest row that begins the bytes of from, len of them, followed by text, and l its length
 pub record Descent (R : ℕ → List ℕ) (n : ℕ) (half : List ℕ) (from len : ℕ) (text : List ℕ) (r l : ℕ) : Type 0 where
   pub bound : ((r ≡ from) × (l ≡ len)) ⊎ ((r < n) × (len < l))

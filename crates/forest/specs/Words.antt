@@ -1,4 +1,4 @@
--- The arrangement of the front half of the search area: 2,560 heads of buckets, then 1,024 numbers of marks, then 4,096 links. A bucket has the rows of one
+-- The arrangement of the front half of the search area: 4,352 heads of buckets, then 4,096 numbers of marks, one for each row, then 4,096 links. A bucket has the rows of one
 -- hash of prefix and next byte. A head or a link holds a word, which packs a row, its prefix and its length, or
 -- none. A prefix and a next byte that are not marked have no row. Assumes nothing.
 use mathlib.Core.Path.{_≡_}
@@ -8,7 +8,7 @@ use mathlib.Core.Bool.{Bool, true, false}
 use Prim.Native.Nat.{ℕ, zero, suc, _+_, _-_, _*_, _/_, _%_, _≤_, _<_}
 use lib.ListN.{length, getD}
 use lib.Dec.{ltb}
-use Rattle.marks.specs.Marks.{marked}
+use Rattle.marks.specs.Marks.{marked, bitKey}
 use Rattle.placed_rows.specs.Rows.{none}
 use Rattle.placed_rows.specs.Longest.{Prefix}
 
@@ -37,19 +37,19 @@ len-of w = w / 67108864 + 1
 
 -- the bucket of the rows whose prefix is q, and whose next byte is b
 unfoldable pub bucketOf : ℕ → ℕ → ℕ
-bucketOf q b = q % 8192 * 2654435769 % 4294967296 / 2097152 + b
+bucketOf q b = q * 21 % 4096 + b
 
--- the key under which they are marked, and where the marks begin
+-- the key under which they are marked, and where the marks begin: one bit, by the byte, of the prefix's own number
 unfoldable pub childKey : ℕ → ℕ → ℕ
-childKey q b = bucketOf q b % 1024 * 1024 + q % 1024
+childKey q b = bitKey (q % 4096) (b % 32)
 
 abbrev pub marksFrom : ℕ
-marksFrom = 2560
+marksFrom = 4352
 
 -- the words from x on, by the links, at most k of them
 unfoldable pub walk : ℕ → List ℕ → ℕ → ℕ → List ℕ
 walk n half zero x = []
-walk n half (suc k) x = elim (ltb (x % 8192) n) [ true ↦ x ∷ walk n half k (getD half (3584 + x % 8192) 0) | false ↦ [] ]
+walk n half (suc k) x = elim (ltb (x % 8192) n) [ true ↦ x ∷ walk n half k (getD half (8448 + x % 8192) 0) | false ↦ [] ]
 
 abbrev pub Mem : ℕ → List ℕ → Type 0
 Mem w [] = ⊥
@@ -89,4 +89,4 @@ pub record Indexed (R : ℕ → List ℕ) (n : ℕ) (half : List ℕ) (S : ℕ �
   pub bytes : (d : ℕ) → In S d → byteOf R par d < 256
   pub listed : (d : ℕ) → In S d → Mem (wordOf R par d) (walk n half (count S n) (getD half (home R par d) 0))
   pub marks : (d : ℕ) → In S d → marked half marksFrom (childKey (par d) (byteOf R par d)) ≡ true
-  pub only : (h w : ℕ) → h < 2560 → Mem w (walk n half n (getD half h 0)) → Entry R par S h w
+  pub only : (h w : ℕ) → h < 4352 → Mem w (walk n half n (getD half h 0)) → Entry R par S h w

@@ -1,20 +1,19 @@
 // The front half of the search area: the rows of a phrase file as a forest under "next shorter prefix".
 ghost use mathlib.Core.Path.{_≡_};
-ghost use mathlib.Core.List.{List};
-ghost use mathlib.Core.Bool.{true, false};
-ghost use Prim.Native.Nat.{ℕ, _%_, _<_, _≤_};
-ghost use lib.ListN.{length};
+ghost use mathlib.Core.Bool.{true};
+ghost use Prim.Native.Nat.{_%_, _<_, _≤_};
+ghost use lib.ListN.{length, getD, drop};
 ghost use Rattle.placed_rows.specs.Rows.{none, row, Placed};
 ghost use Rattle.placed_rows.specs.Texts.{Small};
 ghost use Rattle.marks.specs.Marks.{marked};
 ghost use Rattle.forest.specs.Words.{word, row-of, len-of, bucketOf, childKey, marksFrom};
-ghost use Rattle.forest.specs.Lookups.{Fits, OneByte, OneLonger, ChildIs, Descent};
+ghost use Rattle.forest.specs.Lookups.{Fits, OneLonger, ChildIs, Descent};
 ghost use Rattle.forest.specs.Growth.{cleared, placeOf, pushed, Inserted};
 use placed_rows::Match;
 use placed_rows::NONE;
 
 // Where the marks begin.
-const MARKS: usize = 2560;
+const MARKS: usize = 4352;
 
 fn no_match() -> Match
     ensures { λ r. ⌜ r .row ≡ 4294967295 ⌝ }
@@ -46,24 +45,24 @@ fn word_of(c: usize, p: u32, l: usize) -> u32
 
 // The bucket of the rows whose prefix is p and whose next byte is b.
 fn bucket(p: u32, b: u8) -> usize
-    ensures { λ r. ⌜ Small (bucketOf p b) 2560 r ⌝ }
+    ensures { λ r. ⌜ Small (bucketOf p b) 4352 r ⌝ }
 {
-    (p as usize % 8192) * 2654435769 % 4294967296 / 2097152 + b as usize
+    p as usize * 21 % 4096 + b as usize
 }
 
 // The key under which the prefix p and the next byte b are marked.
 fn child_key(p: u32, b: u8) -> usize
-    ensures { λ r. ⌜ Small (childKey p b) 1048576 r ⌝ }
+    ensures { λ r. ⌜ Small (childKey p b) 4194304 r ⌝ }
 {
-    bucket(p, b) % 1024 * 1024 + p as usize % 1024
+    p as usize % 4096 * 1024 + b as usize % 32 * 33
 }
 
-// Whether the prefix p and the next byte b are marked: else no row has them.
+// Whether the prefix p and the next byte b are marked, by one bit: else no row has them.
 fn may_have_child(half: &[u32], p: u32, b: u8) -> bool
-    requires { ⌜ 7680 ≤ length (now half) ⌝ }
+    requires { ⌜ 12544 ≤ length (now half) ⌝ }
     ensures { λ r. ⌜ r ≡ marked (now (half .entry)) marksFrom (childKey p b) ⌝ }
 {
-    marks::is_marked(half, MARKS, child_key(p, b))
+    marks::is_bit_marked(half, MARKS, p as usize % 4096, b as usize % 32)
 }
 
 // Is w the word of a row whose prefix is p, of len bytes, and that goes on as rest does?
@@ -78,9 +77,6 @@ fn fits(file: &[u8], places: &[u32], n: usize, w: u32, p: u32, len: usize, rest:
     let l = len_of(w);
     if l <= len {
         return false;
-    }
-    if l - len == 1 {
-        return true;
     }
     let bytes = placed_rows::bytes_of(file, places, n, row_of(w));
     if bytes.len() != l {
@@ -102,24 +98,25 @@ fn is_one_longer(n: usize, w: u32, p: u32, len: usize) -> bool
     len_of(w) - 1 == len
 }
 
-// The child of p, of len bytes, that goes on as rest does, among the rows of its bucket, or NONE.
+// The child of p, of len bytes, that goes on as rest does, among the rows of its bucket, whose first word is given, or NONE.
 fn listed_child(
     file: &[u8],
     places: &[u32],
     n: usize,
     half: &[u32],
+    first: u32,
     p: u32,
     len: usize,
     rest: &[u8],
 ) -> Match
     requires { ⌜ Placed (now file) (now places) n ⌝ }
-    requires { ⌜ (7680 ≤ length (now half)) × (0 < length (now rest)) ⌝ }
+    requires { ⌜ (12544 ≤ length (now half)) × ((0 < length (now rest)) × (first ≡ getD (now half) (bucketOf p (getD (now rest) 0 0)) 0)) ⌝ }
+    requires { ⌜ getD (now rest) 0 0 < 256 ⌝ }
     ensures { λ r. ⌜ ChildIs (row (now (file .entry)) (now (places .entry)) n) n (now (half .entry)) p len (now (rest .entry)) (r .row) (r .len) ⌝ }
 {
-    let next = rest[0];
-    let mut w = half[bucket(p, next)];
+    let mut w = first;
     let mut left = n;
-    while left > 0 {
+    loop {
         let i = row_of(w);
         if n <= i {
             return no_match();
@@ -130,13 +127,15 @@ fn listed_child(
                 len: len_of(w),
             };
         }
-        w = half[3584 + i];
         left -= 1;
+        if left == 0 {
+            return no_match();
+        }
+        w = half[8448 + i];
     }
-    no_match()
 }
 
-// The child of p, of len bytes, that goes on as rest does, or NONE. A row that is one byte longer, and first in its bucket, is found by one load.
+// The child of p, of len bytes, that goes on as the text from at on does, or NONE. A row that is one byte longer, and first in its bucket, is found by one load.
 pub fn child(
     file: &[u8],
     places: &[u32],
@@ -144,16 +143,20 @@ pub fn child(
     half: &[u32],
     p: u32,
     len: usize,
-    rest: &[u8],
+    text: &[u8],
+    at: usize,
 ) -> Match
     requires { ⌜ Placed (now file) (now places) n ⌝ }
-    requires { ⌜ 7680 ≤ length (now half) ⌝ }
-    ensures { λ r. ⌜ ChildIs (row (now (file .entry)) (now (places .entry)) n) n (now (half .entry)) p len (now (rest .entry)) (r .row) (r .len) ⌝ }
+    requires { ⌜ (12544 ≤ length (now half)) × (at ≤ length (now text)) ⌝ }
+    ensures { λ r. ⌜ ChildIs (row (now (file .entry)) (now (places .entry)) n) n (now (half .entry)) p len (drop at (now (text .entry))) (r .row) (r .len) ⌝ }
 {
-    if rest.len() == 0 {
+    if text.len() <= at {
         return no_match();
     }
-    let next = rest[0];
+    let next = text[at];
+    if !may_have_child(half, p, next) {
+        return no_match();
+    }
     let w = half[bucket(p, next)];
     if is_one_longer(n, w, p, len) {
         return Match {
@@ -161,13 +164,10 @@ pub fn child(
             len: len + 1,
         };
     }
-    if may_have_child(half, p, next) {
-        return listed_child(file, places, n, half, p, len, rest);
-    }
-    no_match()
+    listed_child(file, places, n, half, w, p, len, &text[at..])
 }
 
-// The longest row that begins the bytes of from, len of them, followed by text, with its length.
+// The longest row that begins the bytes of from, len of them, followed by the text from at on, with its length.
 pub fn descend(
     file: &[u8],
     places: &[u32],
@@ -176,29 +176,31 @@ pub fn descend(
     from: u32,
     len: usize,
     text: &[u8],
+    at: usize,
 ) -> Match
     requires { ⌜ Placed (now file) (now places) n ⌝ }
-    requires { ⌜ 7680 ≤ length (now half) ⌝ }
-    ensures { λ r. ⌜ Descent (row (now (file .entry)) (now (places .entry)) n) n (now (half .entry)) from len (now (text .entry)) (r .row) (r .len) ⌝ }
+    requires { ⌜ (12544 ≤ length (now half)) × (at ≤ length (now text)) ⌝ }
+    ensures { λ r. ⌜ Descent (row (now (file .entry)) (now (places .entry)) n) n (now (half .entry)) from len (drop at (now (text .entry))) (r .row) (r .len) ⌝ }
 {
     let mut best = from;
     let mut size = len;
-    while size - len < text.len() {
-        let rest = &text[size - len..];
-        let next = rest[0];
-        let w = half[bucket(best, next)];
-        if is_one_longer(n, w, best, size) {
-            best = w % 8192;
-            size += 1;
-            continue;
-        }
+    let mut end = at;
+    while end < text.len() {
+        let next = text[end];
         if !may_have_child(half, best, next) {
             return Match {
                 row: best,
                 len: size,
             };
         }
-        let m = listed_child(file, places, n, half, best, size, rest);
+        let w = half[bucket(best, next)];
+        if is_one_longer(n, w, best, size) {
+            best = w % 8192;
+            size += 1;
+            end += 1;
+            continue;
+        }
+        let m = listed_child(file, places, n, half, w, best, size, &text[end..]);
         let r = m.row;
         if r == NONE {
             return Match {
@@ -206,6 +208,7 @@ pub fn descend(
                 len: size,
             };
         }
+        end += m.len - size;
         best = r;
         size = m.len;
     }
@@ -215,79 +218,45 @@ pub fn descend(
     }
 }
 
-// The one-byte row of the first byte of text, with its length: the root's child, found by one load. NONE where its bucket has another row first.
-fn one_byte_row(half: &[u32], n: usize, text: &[u8]) -> Match
-    requires { ⌜ (n ≤ 4096) × (7680 ≤ length (now half)) ⌝ }
-    ensures { λ r. ⌜ ((R : ℕ → List ℕ) → OneByte R n (now (half .entry)) (now (text .entry)) (r .row) (r .len)) ⌝ }
-{
-    if text.len() == 0 {
-        return no_match();
-    }
-    let w = half[bucket(NONE, text[0])];
-    if is_one_longer(n, w, NONE, 0) {
-        return Match {
-            row: w % 8192,
-            len: 1,
-        };
-    }
-    no_match()
-}
-
-// The root's child that begins text, or NONE.
-pub fn root_child(file: &[u8], places: &[u32], n: usize, half: &[u32], text: &[u8]) -> Match
+// The longest row that begins the text from at on, with its length, or NONE and 0.
+pub fn longest(file: &[u8], places: &[u32], n: usize, half: &[u32], text: &[u8], at: usize) -> Match
     requires { ⌜ Placed (now file) (now places) n ⌝ }
-    requires { ⌜ 7680 ≤ length (now half) ⌝ }
-    ensures { λ r. ⌜ ChildIs (row (now (file .entry)) (now (places .entry)) n) n (now (half .entry)) none 0 (now (text .entry)) (r .row) (r .len) ⌝ }
+    requires { ⌜ (12544 ≤ length (now half)) × (at ≤ length (now text)) ⌝ }
+    ensures { λ r. ⌜ Descent (row (now (file .entry)) (now (places .entry)) n) n (now (half .entry)) none 0 (drop at (now (text .entry))) (r .row) (r .len) ⌝ }
 {
-    let first = one_byte_row(half, n, text);
-    if first.row != NONE {
-        return first;
-    }
-    if text.len() > 0 {
-        return listed_child(file, places, n, half, NONE, 0, text);
-    }
-    no_match()
-}
-
-// The longest row that begins text, with its length, or NONE and 0.
-pub fn longest(file: &[u8], places: &[u32], n: usize, half: &[u32], text: &[u8]) -> Match
-    requires { ⌜ Placed (now file) (now places) n ⌝ }
-    requires { ⌜ 7680 ≤ length (now half) ⌝ }
-    ensures { λ r. ⌜ Descent (row (now (file .entry)) (now (places .entry)) n) n (now (half .entry)) none 0 (now (text .entry)) (r .row) (r .len) ⌝ }
-{
-    descend(file, places, n, half, NONE, 0, text)
+    descend(file, places, n, half, NONE, 0, text, at)
 }
 
 // Where a word comes into bucket h: at its head where the bucket is empty, else at the link of its first word.
 fn place(half: &[u32], n: usize, h: usize) -> usize
-    requires { ⌜ (n ≤ 4096) × ((h < 2560) × (7680 ≤ length (now half))) ⌝ }
-    ensures { λ r. ⌜ Small (placeOf (now (half .entry)) n h) 7680 r ⌝ }
+    requires { ⌜ (n ≤ 4096) × ((h < 4352) × (12544 ≤ length (now half))) ⌝ }
+    ensures { λ r. ⌜ Small (placeOf (now (half .entry)) n h) 12544 r ⌝ }
 {
     let first = row_of(half[h]);
     if n <= first {
         return h;
     }
-    3584 + first
+    8448 + first
 }
 
 // The word w of row c goes into bucket h: to its front where the bucket is empty, else behind its first word.
 fn push(half: &mut [u32], n: usize, h: usize, c: usize, w: u32)
-    requires { ⌜ (n ≤ 4096) × ((c < 4096) × ((h < 2560) × (7680 ≤ length (now half)))) ⌝ }
+    requires { ⌜ (n ≤ 4096) × ((c < 4096) × ((h < 4352) × (12544 ≤ length (now half)))) ⌝ }
     ensures { λ r. ⌜ now (half .exit) ≡ pushed (now (half .entry)) n h c w ⌝ }
 {
     let at = place(half, n, h);
-    half[3584 + c] = half[at];
+    half[8448 + c] = half[at];
     half[at] = w;
 }
 
 // Row c goes into the half, under the longest row in it that begins row c.
 pub fn insert(file: &[u8], places: &[u32], n: usize, half: &mut [u32], c: usize)
     requires { ⌜ Placed (now file) (now places) n ⌝ }
-    requires { ⌜ (7680 ≤ length (now half)) × ((c < n) × (length (row (now file) (now places) n c) ≤ 64)) ⌝ }
+    requires { ⌜ (12544 ≤ length (now half)) × ((c < n) × (length (row (now file) (now places) n c) ≤ 64)) ⌝ }
     ensures { λ r. ⌜ Inserted (row (now (file .entry)) (now (places .entry)) n) n (now (half .entry)) c (now (half .exit)) ⌝ }
 {
     let bytes = placed_rows::bytes_of(file, places, n, c);
-    let m = longest(file, places, n, half, bytes);
+    let m = longest(file, places, n, half, bytes, 0);
     let p = m.row;
     let k = m.len;
     if k < bytes.len() {
@@ -300,11 +269,11 @@ pub fn insert(file: &[u8], places: &[u32], n: usize, half: &mut [u32], c: usize)
 
 // Every bucket and every mark is emptied.
 pub fn clear(half: &mut [u32])
-    requires { ⌜ 7680 ≤ length (now half) ⌝ }
+    requires { ⌜ 12544 ≤ length (now half) ⌝ }
     ensures { λ r. ⌜ now (half .exit) ≡ cleared (now (half .entry)) ⌝ }
 {
     let mut i = 0;
-    while i < 3584 {
+    while i < 8448 {
         half[i] = NONE;
         i += 1;
     }

@@ -13,7 +13,7 @@ use lib.Dec.{eqb}
 use borrow.Author.Tests.{eq-eqb}
 use Rattle.bitfield.specs.Bits.{wordBit, without}
 use Rattle.bitfield.proofs.Without.{without-same, without-other}
-use Rattle.marks.specs.Marks.{bothClear, marked, Marks}
+use Rattle.marks.specs.Marks.{bothClear, marked, bitKey, Marks}
 
 -- two remainders by 2 are both 0 if their sum is
 both-even : (m n : ℕ) → eqb (m % 2 + n % 2) 0 ≡ not (eqb (m % 2) 1) && not (eqb (n % 2) 1)
@@ -118,3 +118,27 @@ module _ (numbers : List ℕ) (base k u v : ℕ) (inside : base + k / 1024 < len
 
   pub marks : Marks numbers base k after
   marks = record { number = v; is = refl; new = new; old = λ j m. old j m (ℕ-discrete (j / 1024) (k / 1024)) }
+
+-- one bit twice: the remainder by 2 is 0
+even : (m : ℕ) → eqb (m % 2) 0 ≡ not (eqb (m % 2) 1) && not (eqb (m % 2) 1)
+even m = go (m % 2) (omega arith)
+  where
+    go : (c : ℕ) → c < 2 → eqb c 0 ≡ not (eqb c 1) && not (eqb c 1)
+    go zero h = refl
+    go (suc zero) h = refl
+    go (suc (suc c)) h = absurd (omega arith)
+
+-- a key of one bit is one of the number's own
+pub bit-key-number : (i b : ℕ) → b < 32 → bitKey i b / 1024 ≡ i
+unfolding bitKey
+bit-key-number i b h = omega arith
+
+-- what `is_bit_marked` computes
+pub bit-marked-is : (numbers : List ℕ) (base i b : ℕ) → b < 32 → eqb (getD numbers (base + i) 0 / 2 ^ b % 2) 0 ≡ marked numbers base (bitKey i b)
+unfolding marked bothClear wordBit bitKey
+bit-marked-is numbers base i b h =
+    let x : (i * 1024 + b * 33) / 1024 ≡ i = omega arith in
+    let v : (i * 1024 + b * 33) / 32 ≡ i * 32 + b = omega arith in
+    let y : (i * 32 + b) % 32 ≡ b = omega arith in
+    let z : (i * 1024 + b * 33) % 32 ≡ b = omega arith in
+    rw (x, v, y, z) (even (getD numbers (base + i) 0 / 2 ^ b))

@@ -4,7 +4,7 @@
 use mathlib.Core.Path.{_≡_}
 use mathlib.Core.List.{List}
 use mathlib.Core.Bool.{Bool, true, not, _&&_}
-use Prim.Native.Nat.{ℕ, _+_, _/_, _%_}
+use Prim.Native.Nat.{ℕ, _+_, _*_, _/_, _%_}
 use lib.ListN.{getD, set}
 use Rattle.bitfield.specs.Bits.{wordBit}
 
@@ -21,3 +21,7 @@ pub record Marks (numbers : List ℕ) (base k : ℕ) (numbers' : List ℕ) : Typ
   pub is : numbers' ≡ set numbers (base + k / 1024) number
   pub new : marked numbers' base k ≡ true
   pub old : (j : ℕ) → marked numbers base j ≡ true → marked numbers' base j ≡ true
+
+-- the key whose two bits are one: bit b of number i from the base on
+unfoldable pub bitKey : ℕ → ℕ → ℕ
+bitKey i b = i * 1024 + b * 33

@@ -3,7 +3,7 @@ ghost use mathlib.Core.Path.{_≡_};
 ghost use Prim.Native.Nat.{_+_, _/_, _<_, _≤_};
 ghost use lib.ListN.{length};
 ghost use Rattle.bitfield.specs.Bits.{wordBit, without};
-ghost use Rattle.marks.specs.Marks.{marked, Marks};
+ghost use Rattle.marks.specs.Marks.{marked, bitKey, Marks};
 
 // A word without its bit k.
 fn word_without(word: u32, k: usize) -> u32
@@ -24,6 +24,14 @@ pub fn is_marked(numbers: &[u32], base: usize, key: usize) -> bool
 {
     let word = numbers[base + key / 1024];
     (word >> (key / 32 % 32)) % 2 + (word >> (key % 32)) % 2 == 0
+}
+
+// Whether the key of one bit is marked: bit b of number i from the base on.
+pub fn is_bit_marked(numbers: &[u32], base: usize, i: usize, b: usize) -> bool
+    requires { ⌜ (base + i < length (now numbers)) × (b < 32) ⌝ }
+    ensures { λ r. ⌜ r ≡ marked (now (numbers .entry)) base (bitKey i b) ⌝ }
+{
+    (numbers[base + i] >> b) % 2 == 0
 }
 
 // Marks a key.

@@ -15,11 +15,11 @@ use Rattle.phrase_file.specs.Checks.{firstNot}
 use Rattle.phrase_file.proofs.Bytes.{first-passed, first-here, first-end}
 use Rattle.placed_rows.specs.Rows.{none}
 use Rattle.marks.specs.Marks.{marked}
-use Rattle.token_pair.specs.Pair.{pairKey}
+use Rattle.token_pair.specs.Pair.{pairKey, seamAt}
 use Rattle.parts.specs.Parts.{isSome, hasParts, firstWithout, partsIn, RowParts, PartsKnown, Looking, PartsFound, PartsFit, PartsFilled}
-use Rattle.parts.specs.Marking.{AreaKept, WriteFit, PartsWritten}
-use Rattle.parts.proofs.Trying.{left-low}
-use Rattle.parts.proofs.Marking.{still-found, kept-all, kept-through}
+use Rattle.parts.specs.Marking.{AreaKept, WriteFit, PartsWritten, SeamFit, SeamWritten}
+use Rattle.parts.proofs.Trying.{left-low, left-shorter}
+use Rattle.parts.proofs.Marking.{still-found, kept-all, kept-through, seam-stays}
 
 -- other marks of pairs in the search area change nothing of what is there to start with, and of what is left in the tables
 module _ (file lefts rights area area₁ : List ℕ) (n : ℕ) (k : AreaKept area area₁) where
@@ -61,7 +61,7 @@ module _ (file places lefts₀ rights₀ prefixes area₀ : List ℕ) (n : ℕ) 
   unfolding firstWithout
   filling-start = record {
     few = omega arith;
-    known = record { left-room = omega arith; right-room = omega arith; parts = λ c h. absurd (omega arith); pairs-marked = λ c h. absurd (omega arith) };
+    known = record { left-room = omega arith; right-room = omega arith; parts = λ c h. absurd (omega arith); pairs-marked = λ c h. absurd (omega arith); seams-marked = λ c h. absurd (omega arith) };
     left-to-do = ap (λ (k : ℕ). firstNot k (hasParts (rows file)) 0) (let e = count in omega arith);
     lefts-length = refl;
     rights-length = refl;
@@ -105,8 +105,17 @@ module _ (file places lefts₀ rights₀ prefixes area₀ : List ℕ) (n : ℕ) 
         area-room = omega (arith, F .area-kept .area-length, T .rows-found .area-room);
       }
 
-      pub filling-goes-on : (l ≡ none → ⊥) → (lefts' rights' area' : List ℕ) → PartsWritten lefts rights area w l r lefts' rights' area' → Filling file lefts₀ rights₀ area₀ lefts' rights' area' n (w + 1)
-      filling-goes-on d lefts' rights' area' P = ⊎-elim (λ q. absurd (d (q .left-none))) more p
+      pub filling-cuts : (l ≡ none → ⊥) → (lefts' rights' area' : List ℕ) → PartsWritten lefts rights area w l r lefts' rights' area' → SeamFit file places area' n w l
+      filling-cuts d lefts' rights' area' P = record {
+        places-ready = T .rows-found .places-ready;
+        row-below = h;
+        area-room = omega (arith, P .kept .area-length, filling-writes .area-room);
+        shorter = ⊎-elim (λ q. absurd (d (q .left-none))) (λ q. left-shorter file places lefts rights prefixes area n w (filling-looks h) l r q) p;
+      }
+
+      pub filling-goes-on : (l ≡ none → ⊥) → (lefts' rights' area' area'' : List ℕ) → PartsWritten lefts rights area w l r lefts' rights' area' → SeamWritten file area' w l area''
+          → Filling file lefts₀ rights₀ area₀ lefts' rights' area'' n (w + 1)
+      filling-goes-on d lefts' rights' area' area'' P S = ⊎-elim (λ q. absurd (d (q .left-none))) more p
         where
           same-left : getD lefts' w 0 ≡ l
           same-left = ap (λ (t : List ℕ). getD t w 0) (P .lefts-are) ∙ getD-set-same lefts w l 0 (filling-writes .left-room)
@@ -124,9 +133,13 @@ module _ (file places lefts₀ rights₀ prefixes area₀ : List ℕ) (n : ℕ) 
           parts q c k (yes b) = rw (other-left c b, other-right c b) (F .known .parts c b)
           parts q c k (no b) = let z : c ≡ w = omega arith in rw (z, same-left, same-right) q
 
-          pairs : (c : ℕ) → c < w + 1 → Dec (c < w) → getD lefts' c 0 < c → marked area' 15360 (pairKey (getD lefts' c 0) (getD rights' c 0)) ≡ true
-          pairs c k (yes b) = rw (other-left c b, other-right c b) (λ h. P .old (pairKey (getD lefts c 0) (getD rights c 0)) (F .known .pairs-marked c b h))
-          pairs c k (no b) = let z : c ≡ w = omega arith in rw (z, same-left, same-right) (P .new)
+          pairs : (c : ℕ) → c < w + 1 → Dec (c < w) → getD lefts' c 0 < c → marked area'' 15360 (pairKey (getD lefts' c 0) (getD rights' c 0)) ≡ true
+          pairs c k (yes b) = rw (other-left c b, other-right c b) (λ h. S .old (pairKey (getD lefts c 0) (getD rights c 0)) (P .old (pairKey (getD lefts c 0) (getD rights c 0)) (F .known .pairs-marked c b h)))
+          pairs c k (no b) = let z : c ≡ w = omega arith in rw (z, same-left, same-right) (λ h. S .old (pairKey l r) (P .new h))
+
+          seams : (c : ℕ) → c < w + 1 → Dec (c < w) → getD lefts' c 0 < c → marked area'' 14848 (seamAt file c (getD lefts' c 0)) ≡ true
+          seams c k (yes b) = rw (other-left c b) (λ h. seam-stays file area' area'' c (getD lefts c 0) (S .seams) (seam-stays file area area' c (getD lefts c 0) (P .seams) (F .known .seams-marked c b h)))
+          seams c k (no b) = let z : c ≡ w = omega arith in rw (z, same-left) (S .new)
 
           lefts-length : length lefts' ≡ length lefts₀
           lefts-length = ap length (P .lefts-are) ∙ length-set lefts w l ∙ F .lefts-length
@@ -134,7 +147,7 @@ module _ (file places lefts₀ rights₀ prefixes area₀ : List ℕ) (n : ℕ) 
           rights-length : length rights' ≡ length rights₀
           rights-length = ap length (P .rights-are) ∙ length-set rights w r ∙ F .rights-length
 
-          more : RowParts file w l r → Filling file lefts₀ rights₀ area₀ lefts' rights' area' n (w + 1)
+          more : RowParts file w l r → Filling file lefts₀ rights₀ area₀ lefts' rights' area'' n (w + 1)
           more q = record {
             few = omega arith;
             known = record {
@@ -142,11 +155,12 @@ module _ (file places lefts₀ rights₀ prefixes area₀ : List ℕ) (n : ℕ) 
               right-room = omega (arith, rights-length, T .right-room);
               parts = λ c k. parts q c k (decLt c w);
               pairs-marked = λ c k. pairs c k (decLt c w);
+              seams-marked = λ c k. seams c k (decLt c w);
             };
             left-to-do = sym (first-passed (hasParts (rows file)) n w h (has h ∙ ap isSome (q .are))) ∙ F .left-to-do;
             lefts-length = lefts-length;
             rights-length = rights-length;
             lefts-beyond = ap (drop n) (P .lefts-are) ∙ drop-set-lt n lefts w l h ∙ F .lefts-beyond;
             rights-beyond = ap (drop n) (P .rights-are) ∙ drop-set-lt n rights w r h ∙ F .rights-beyond;
-            area-kept = kept-through area₀ area area' (F .area-kept) (P .kept);
+            area-kept = kept-through area₀ area area'' (F .area-kept) (kept-through area area' area'' (P .kept) (S .kept));
           }

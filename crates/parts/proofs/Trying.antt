@@ -201,6 +201,16 @@ module _ (file places lefts rights prefixTable area : List ℕ) (n w : ℕ) (L :
       (λ h. let e = parts-same (record { left = l; right = r }) (record { left = w; right = w }) (sym (p .are) ∙ parts-single (rows file) w h) .0 in omega arith)
       (lt-or-ge 1 (length (bytesOf (rows file) w)))
 
+  -- a left part that is a lower row has fewer bytes
+  pub left-shorter : (l r : ℕ) → RowParts file w l r → l < w → length (getD (rows file) l []) < length (getD (rows file) w [])
+  left-shorter l r p b = ⊎-elim
+      (λ h.
+      let j = p .longer (omega (arith, ap length (bytes-are file places n (L .rows-found .places-ready) w (L .row-below)))) in
+      let f = L .rows-found .places-ready .filled r (omega (arith, j .right-below, L .row-below)) in
+      omega (arith, ap length (j .joined), length-append (getD (rows file) l []) (getD (rows file) r [])))
+      (λ h. absurd (let e = parts-same (record { left = l; right = r }) (record { left = w; right = w }) (sym (p .are) ∙ parts-single (rows file) w h) .0 in omega arith))
+      (lt-or-ge 1 (length (bytesOf (rows file) w)))
+
   few : n ≤ 4096
   few = L .rows-found .places-ready .placed .few
 

@@ -1,32 +1,43 @@
--- The parts of one row are written, and the marks of pairs with them. Assumes nothing.
+-- The parts of one row are written, and the marks of pairs and seams with them. Assumes nothing.
 use mathlib.Core.Path.{_≡_}
-use mathlib.Core.List.{List}
+use mathlib.Core.List.{List, []}
 use mathlib.Core.Bool.{true}
 use Prim.Native.Nat.{ℕ, _≤_, _<_}
 use lib.ListN.{length, getD, set, take, drop}
 use Rattle.placed_rows.specs.Rows.{none}
 use Rattle.marks.specs.Marks.{marked}
-use Rattle.token_pair.specs.Pair.{pairKey}
+use Rattle.phrase_file.specs.Form.{rows}
+use Rattle.tables.specs.Ready.{PlacesReady}
+use Rattle.token_pair.specs.Pair.{pairKey, seamKey, seamAt}
 
--- the search area has changed in the hints and the marks of pairs alone, its numbers 7,680 to 16,383
+-- the search area has changed in the hints and the marks alone, its numbers 12,544 to 16,383
 pub record AreaKept (area area' : List ℕ) : Type 0 where
   pub area-length : length area' ≡ length area
-  pub before : take 7680 area' ≡ take 7680 area
+  pub before : take 12544 area' ≡ take 12544 area
   pub beyond : drop 16384 area' ≡ drop 16384 area
 
--- the hints and the marks of pairs are none
+-- the hints and the marks are none
 pub record PairsEmptied (area area' : List ℕ) : Type 0 where
   pub kept : AreaKept area area'
-  pub emptied : (i : ℕ) → 7680 ≤ i → i < 16384 → getD area' i 0 ≡ none
+  pub emptied : (i : ℕ) → 12544 ≤ i → i < 16384 → getD area' i 0 ≡ none
+
+-- the pairs that were marked still are
+abbrev pub PairsStay : List ℕ → List ℕ → Type 0
+PairsStay area area' = (k : ℕ) → marked area 15360 k ≡ true → marked area' 15360 k ≡ true
+
+-- the seams that were marked still are
+abbrev pub SeamsStay : List ℕ → List ℕ → Type 0
+SeamsStay area area' = (a b : ℕ) → marked area 14848 (seamKey a b) ≡ true → marked area' 14848 (seamKey a b) ≡ true
 
 -- a row was named; which one is named where is free
 pub record Named (area area' : List ℕ) : Type 0 where
   pub kept : AreaKept area area'
-  pub old : (k : ℕ) → marked area 15360 k ≡ true → marked area' 15360 k ≡ true
+  pub old : PairsStay area area'
+  pub seams : SeamsStay area area'
 
--- the tables have an entry w, which is a row number, and the search area its size
+-- the tables have an entry w, which a half of a number can hold, and the search area its size
 pub record WriteFit (lefts rights area : List ℕ) (w : ℕ) : Type 0 where
-  pub row : w < 4294967296
+  pub row : w < 65535
   pub left-room : w < length lefts
   pub right-room : w < length rights
   pub area-room : 16384 ≤ length area
@@ -37,4 +48,19 @@ pub record PartsWritten (lefts rights area : List ℕ) (w l r : ℕ) (lefts' rig
   pub rights-are : rights' ≡ set rights w r
   pub kept : AreaKept area area'
   pub new : l < w → marked area' 15360 (pairKey l r) ≡ true
-  pub old : (k : ℕ) → marked area 15360 k ≡ true → marked area' 15360 k ≡ true
+  pub old : PairsStay area area'
+  pub seams : SeamsStay area area'
+
+-- row w may be read, and a row l below it has fewer bytes
+pub record SeamFit (file places area : List ℕ) (n w l : ℕ) : Type 0 where
+  pub places-ready : PlacesReady file places n
+  pub row-below : w < n
+  pub area-room : 16384 ≤ length area
+  pub shorter : l < w → length (getD (rows file) l []) < length (getD (rows file) w [])
+
+-- the seam of row w behind its left part l is marked, if the row is a longer one
+pub record SeamWritten (file area : List ℕ) (w l : ℕ) (area' : List ℕ) : Type 0 where
+  pub kept : AreaKept area area'
+  pub new : l < w → marked area' 14848 (seamAt file w l) ≡ true
+  pub old : PairsStay area area'
+  pub seams : SeamsStay area area'

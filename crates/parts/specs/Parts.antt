@@ -15,7 +15,7 @@ use Rattle.placed_rows.specs.Texts.{Begins}
 use Rattle.placed_rows.specs.Longest.{Below, Prefix}
 use Rattle.tables.specs.Ready.{PlacesReady}
 use Rattle.search_area.specs.Area.{Finds}
-use Rattle.token_pair.specs.Pair.{Distinct, PairsMarked}
+use Rattle.token_pair.specs.Pair.{Distinct, PairsMarked, SeamsMarked}
 use Rattle.parts.specs.Marking.{AreaKept}
 
 abbrev pub isSome : Option Parts → Bool
@@ -57,12 +57,13 @@ pub record RowParts (file : List ℕ) (w l r : ℕ) : Type 0 where
   pub are : partsIn (rows file) w ≡ some (record { left = l; right = r })
   pub longer : 1 < length (getD (rows file) w []) → Joined file w l r
 
--- the tables have the parts of the rows below w, and the search area has them marked
+-- the tables have the parts of the rows below w, and the search area has them and their seams marked
 pub record PartsKnown (file lefts rights area : List ℕ) (w : ℕ) : Type 0 where
   pub left-room : w ≤ length lefts
   pub right-room : w ≤ length rights
   pub parts : (c : ℕ) → c < w → RowParts file c (getD lefts c 0) (getD rights c 0)
   pub pairs-marked : PairsMarked lefts rights area w
+  pub seams-marked : SeamsMarked file lefts area w
 
 -- row w is looked at, the parts of the rows before it being known
 pub record Looking (file places lefts rights area : List ℕ) (n w : ℕ) : Type 0 where

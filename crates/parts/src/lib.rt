@@ -3,13 +3,14 @@ ghost use mathlib.Core.Path.{_≡_};
 ghost use Prim.Native.Nat.{_≤_, _<_};
 ghost use lib.ListN.{length};
 ghost use Rattle.parts.specs.Parts.{Looking, Beginner, RightPart, PrefixesFound, PartsFound, PartsFit, PartsFilled};
-ghost use Rattle.parts.specs.Marking.{PairsEmptied, Named, WriteFit, PartsWritten};
+ghost use Rattle.parts.specs.Marking.{PairsEmptied, Named, WriteFit, PartsWritten, SeamFit, SeamWritten};
 use placed_rows::NONE;
 use placed_rows::wide;
 use token_pair::HINTS;
 use token_pair::PAIRS;
+use token_pair::SEAMS;
 
-// The end of the hints and of the marks of pairs in the search area.
+// The end of the hints and of the marks in the search area.
 const PAIRS_END: usize = 16384;
 
 // The left and the right part of a row, or NONE twice.
@@ -84,7 +85,7 @@ fn find_parts(
     }
 }
 
-// The hints and the marks of pairs become NONE: no row is named, and no pair is marked.
+// The hints and the marks become NONE: no row is named, and no seam and no pair is marked.
 fn empty_pairs(area: &mut [u32])
     requires { ⌜ 16384 ≤ length (now area) ⌝ }
     ensures { λ _. ⌜ PairsEmptied (now (area .entry)) (now (area .exit)) ⌝ }
@@ -96,15 +97,31 @@ fn empty_pairs(area: &mut [u32])
     }
 }
 
+// A number of two hints with row w in a half of it, the lower one where `half` is 0, unless another row is named there.
+fn with_row(number: u32, half: usize, w: usize) -> u32
+    requires { ⌜ w < 65535 ⌝ }
+{
+    let less = 65535 - w as u32;
+    if half == 0 {
+        if number % 65536 == 65535 {
+            return number - less;
+        }
+        return number;
+    }
+    if number / 65536 == 65535 {
+        return number - less * 65536;
+    }
+    number
+}
+
 // Names row w as the one that has the two as its parts, unless another row is named at that place.
 fn name_row(area: &mut [u32], w: usize, left: u32, right: u32)
-    requires { ⌜ (w < 4294967296) × (16384 ≤ length (now area)) ⌝ }
+    requires { ⌜ (w < 65535) × (16384 ≤ length (now area)) ⌝ }
     ensures { λ _. ⌜ Named (now (area .entry)) (now (area .exit)) ⌝ }
 {
-    let at = token_pair::hint_place(left, right);
-    if area[at] == NONE {
-        area[at] = w as u32;
-    }
+    let place = token_pair::hint_place(left, right);
+    let at = HINTS + place / 2;
+    area[at] = with_row(area[at], place % 2, w);
 }
 
 // Writes the parts of row w into the tables; where the row is a longer one, it is named for the two, and they are marked.
@@ -128,8 +145,26 @@ fn write_parts(
     marks::mark(area, PAIRS, token_pair::pair_key(left, right));
 }
 
-// Writes the parts of the rows into the tables, marks the pairs of the longer ones in the search area, and says which row is the
-// lowest without parts, n where all have parts.
+// Marks the seam of row w, if it is a longer one: its last byte within the left part, and the next one.
+fn mark_seam(file: &[u8], places: &[u32], n: usize, area: &mut [u32], w: usize, left: u32)
+    requires { ⌜ SeamFit (now file) (now places) (now area) n w left ⌝ }
+    ensures { λ _. ⌜ SeamWritten (now (file .entry)) (now (area .entry)) w left (now (area .exit)) ⌝ }
+{
+    let part = wide(left);
+    if w <= part {
+        return;
+    }
+    let bytes = placed_rows::bytes_of(file, places, n, w);
+    let cut = placed_rows::length_of(file, places, n, part);
+    marks::mark(
+        area,
+        SEAMS,
+        token_pair::seam_key(bytes[cut - 1], bytes[cut]),
+    );
+}
+
+// Writes the parts of the rows into the tables, marks the pairs and the seams of the longer ones in the search area, and says which
+// row is the lowest without parts, n where all have parts.
 pub fn fill_parts(
     file: &[u8],
     places: &[u32],
@@ -151,6 +186,7 @@ pub fn fill_parts(
             return w;
         }
         write_parts(lefts, rights, area, w, left, parts.right);
+        mark_seam(file, places, n, area, w, left);
         w += 1;
     }
     n

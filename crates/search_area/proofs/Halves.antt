@@ -7,10 +7,10 @@ use lib.ListN.{length, take}
 use lib.Seq.{length-take-le}
 use Rattle.search_area.specs.Area.{frontHalf, Finds}
 
-pub front-length : (area : List ℕ) → 16384 ≤ length area → length (frontHalf area) ≡ 7680
-front-length area h = length-take-le 7680 area (omega arith)
+pub front-length : (area : List ℕ) → 16384 ≤ length area → length (frontHalf area) ≡ 12544
+front-length area h = length-take-le 12544 area (omega arith)
 
 -- the numbers behind it do not count
-pub finds-same : (file places : List ℕ) (n : ℕ) (area area' : List ℕ) → take 7680 area ≡ take 7680 area' → Finds file places n area → Finds file places n area'
+pub finds-same : (file places : List ℕ) (n : ℕ) (area area' : List ℕ) → take 12544 area ≡ take 12544 area' → Finds file places n area → Finds file places n area'
 unfolding Finds
 finds-same file places n area area' e F = rw e at F

@@ -14,12 +14,14 @@ use Rattle.placed_rows.proofs.Beginning.{begins-length, same-length, whole}
 use Rattle.forest.specs.Words.{In, Indexed}
 use Rattle.forest.specs.Lookups.{At, Descent}
 use Rattle.forest.proofs.NoChild.{filled}
-use Rattle.search_area.specs.Area.{frontHalf, allRows, Finds}
+use Rattle.forest.proofs.Marking.{front-indexed}
+use Rattle.search_area.specs.Area.{allRows, Finds}
 use Rattle.search_area.specs.Answers.{NextMatch, RowIs, Found}
 
-pub front-index : (file places : List ℕ) (n : ℕ) (area : List ℕ) → Finds file places n area → Indexed (row file places n) n (frontHalf area) (allRows n)
+-- the rows are listed in the area itself, whose other numbers do not count
+pub front-index : (file places : List ℕ) (n : ℕ) (area : List ℕ) → Finds file places n area → Indexed (row file places n) n area (allRows n)
 unfolding Finds
-front-index file places n area F = F
+front-index file places n area F = front-indexed (row file places n) n area (allRows n) F
 
 -- the rows of the index are the rows below n
 pub below-in : (n d : ℕ) → d < n → In (allRows n) d
@@ -77,43 +79,42 @@ module _ (file places : List ℕ) (n : ℕ) (area : List ℕ) where
   R = row file places n
 
   abbrev D : ℕ → ℕ → List ℕ → ℕ → ℕ → Type 0
-  D from len t r l = Descent R n (frontHalf area) from len t r l
+  D from len t r l = Descent R n area from len t r l
 
-  pub next-match : (t u : List ℕ) (r l : ℕ) → D none 0 t r l → t ≡ u → NextMatch file places n area u r l
-  next-match t u r l d e =
-      rw (← e) (record {
-        bound = d .bound;
-        room = let z = d .room in omega arith;
-        longest = λ F. let I = front-index file places n area F in
-            longest-full R n (frontHalf area) none 0 t t r l d (rw (I .forest .root)) (at-none R n (frontHalf area) (allRows n) I);
-      })
+  pub next-match : (t : List ℕ) (r l : ℕ) → D none 0 t r l → NextMatch file places n area t r l
+  next-match t r l d = record {
+    bound = d .bound;
+    room = let z = d .room in omega arith;
+    longest = λ F. let I = front-index file places n area F in
+        longest-full R n area none 0 t t r l d (rw (I .forest .root)) (at-none R n area (allRows n) I);
+  }
 
   pub find-hit : (t : List ℕ) (r l : ℕ) → D none 0 t r l → l ≡ length t → Found file places n area t r
   find-hit t r l d h = record {
     bound = ⊎-elim (λ z. inl (z .0)) (λ z. inr (z .0)) (d .bound);
     found = λ F. let I = front-index file places n area F in
-        found-hit R n (frontHalf area) none 0 t t r l d (rw (I .forest .root)) (at-none R n (frontHalf area) (allRows n) I) (omega arith);
+        found-hit R n area none 0 t t r l d (rw (I .forest .root)) (at-none R n area (allRows n) I) (omega arith);
   }
 
   pub find-miss : (t : List ℕ) (r l : ℕ) → D none 0 t r l → (l ≡ length t → ⊥) → Found file places n area t none
   find-miss t r l d h = record {
     bound = inl refl;
     found = λ F. let I = front-index file places n area F in
-        found-miss R n (frontHalf area) none 0 t t r l d (rw (I .forest .root)) (at-none R n (frontHalf area) (allRows n) I) (λ z. h (omega arith));
+        found-miss R n area none 0 t t r l d (rw (I .forest .root)) (at-none R n area (allRows n) I) (λ z. h (omega arith));
   }
 
   module _ (x y len : ℕ) (t : List ℕ) (r l : ℕ) (d : D x len t r l) (X : x < n) (e : t ≡ R y) (k : len ≡ length (R x)) where
-    at-x : (I : Indexed R n (frontHalf area) (allRows n)) → At R n (frontHalf area) (allRows n) x len
+    at-x : (I : Indexed R n area (allRows n)) → At R n area (allRows n) x len
     at-x I = record { index = I; known = inr (below-in n x X); size = k }
 
     pub join-hit : l ≡ len + length t → Found file places n area (R x ++ R y) r
     join-hit h = record {
       bound = inr (⊎-elim (λ z. let q = z .0 in omega arith) (λ z. z .0) (d .bound));
-      found = λ F. found-hit R n (frontHalf area) x len t (R x ++ R y) r l d (ap (λ (z : List ℕ). R x ++ z) e) (at-x (front-index file places n area F)) h;
+      found = λ F. found-hit R n area x len t (R x ++ R y) r l d (ap (λ (z : List ℕ). R x ++ z) e) (at-x (front-index file places n area F)) h;
     }
 
     pub join-miss : (l ≡ len + length t → ⊥) → Found file places n area (R x ++ R y) none
     join-miss h = record {
       bound = inl refl;
-      found = λ F. found-miss R n (frontHalf area) x len t (R x ++ R y) r l d (ap (λ (z : List ℕ). R x ++ z) e) (at-x (front-index file places n area F)) h;
+      found = λ F. found-miss R n area x len t (R x ++ R y) r l d (ap (λ (z : List ℕ). R x ++ z) e) (at-x (front-index file places n area F)) h;
     }

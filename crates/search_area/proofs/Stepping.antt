@@ -14,7 +14,7 @@ use Rattle.placed_rows.proofs.Chains.{other}
 use Rattle.forest.specs.Words.{In, Indexed}
 use Rattle.forest.specs.Lookups.{Child, At, ChildIs}
 use Rattle.forest.proofs.NoChild.{no-child}
-use Rattle.search_area.specs.Area.{frontHalf, allRows}
+use Rattle.search_area.specs.Area.{allRows}
 use Rattle.search_area.specs.Answers.{Reached, Longer, LongerMatch}
 use Rattle.search_area.proofs.Looking.{front-index, below-in}
 
@@ -62,12 +62,12 @@ module _ (R : ℕ → List ℕ) (n : ℕ) (half t : List ℕ) (p len r l : ℕ) 
 
 -- the contract, as the code has it
 pub longer-match : (file places : List ℕ) (n : ℕ) (area t rest : List ℕ) (p len r l : ℕ) → len ≤ length t → rest ≡ drop len t
-    → ChildIs (row file places n) n (frontHalf area) p len rest r l → LongerMatch file places n area t p len r l
+    → ChildIs (row file places n) n area p len rest r l → LongerMatch file places n area t p len r l
 longer-match file places n area t rest p len r l h e C' =
-    let C : ChildIs (row file places n) n (frontHalf area) p len (drop len t) r l = rw e at C' in
+    let C : ChildIs (row file places n) n area p len (drop len t) r l = rw e at C' in
     record {
       bound = ⊎-elim inl
           (λ s. let f = s .fits in inr (record { below = s .below; longer = s .longer; room = omega (arith, length-drop len t); short = s .short }))
           (C .bound);
-      next = λ F Q. longer (row file places n) n (frontHalf area) t p len r l C (front-index file places n area F) Q;
+      next = λ F Q. longer (row file places n) n area t p len r l C (front-index file places n area F) Q;
     }

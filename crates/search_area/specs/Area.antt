@@ -1,4 +1,4 @@
--- The search area, of 16,384 numbers: its first 7,680 list the rows; the others are hints and marks of pairs (crate token_pair). Assumes nothing.
+-- The search area, of 16,384 numbers: its first 12,544 list the rows; the others are hints and marks of seams and pairs (crate token_pair). Assumes nothing.
 use mathlib.Core.List.{List}
 use mathlib.Core.Bool.{Bool}
 use Prim.Native.Nat.{ℕ}
@@ -8,7 +8,7 @@ use Rattle.placed_rows.specs.Rows.{row}
 use Rattle.forest.specs.Words.{Indexed}
 
 abbrev pub frontHalf : List ℕ → List ℕ
-frontHalf area = take 7680 area
+frontHalf area = take 12544 area
 
 -- the front half lists the rows of S
 abbrev pub Holds : List ℕ → List ℕ → ℕ → List ℕ → (ℕ → Bool) → Type 0

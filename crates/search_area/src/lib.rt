@@ -20,7 +20,7 @@ pub fn next_match(
     requires { ⌜ (16384 ≤ length (now area)) × (at ≤ length (now text)) ⌝ }
     ensures { λ r. ⌜ NextMatch (now (file .entry)) (now (places .entry)) n (now (area .entry)) (drop at (now (text .entry))) (r .row) (r .len) ⌝ }
 {
-    forest::longest(file, places, n, &area[..7680], &text[at..])
+    forest::longest(file, places, n, area, text, at)
 }
 
 // The shortest row that begins the text from at on, with its length, or NONE.
@@ -36,7 +36,7 @@ pub fn first_match(
     requires { ⌜ (16384 ≤ length (now area)) × (at ≤ length (now text)) ⌝ }
     ensures { λ r. ⌜ LongerMatch (now (file .entry)) (now (places .entry)) n (now (area .entry)) (drop at (now (text .entry))) none 0 (r .row) (r .len) ⌝ }
 {
-    forest::root_child(file, places, n, &area[..7680], &text[at..])
+    forest::child(file, places, n, area, NONE, 0, text, at)
 }
 
 // The shortest row that begins the text from at on and is longer than row, of len bytes, which begins it too, with its length, or NONE.
@@ -54,7 +54,7 @@ pub fn longer_match(
     requires { ⌜ (16384 ≤ length (now area)) × (at + len ≤ length (now text)) ⌝ }
     ensures { λ r. ⌜ LongerMatch (now (file .entry)) (now (places .entry)) n (now (area .entry)) (drop at (now (text .entry))) row len (r .row) (r .len) ⌝ }
 {
-    forest::child(file, places, n, &area[..7680], row, len, &text[at + len..])
+    forest::child(file, places, n, area, row, len, text, at + len)
 }
 
 // The row with these bytes, or NONE.
@@ -63,7 +63,7 @@ pub fn find(file: &[u8], places: &[u32], n: usize, area: &[u32], bytes: &[u8]) -
     requires { ⌜ 16384 ≤ length (now area) ⌝ }
     ensures { λ r. ⌜ Found (now (file .entry)) (now (places .entry)) n (now (area .entry)) (now (bytes .entry)) r ⌝ }
 {
-    let m = forest::longest(file, places, n, &area[..7680], bytes);
+    let m = forest::longest(file, places, n, area, bytes, 0);
     let r = m.row;
     let l = m.len;
     if l == bytes.len() { r } else { NONE }
@@ -77,7 +77,7 @@ pub fn join(file: &[u8], places: &[u32], n: usize, area: &[u32], x: u32, y: u32)
 {
     let a = placed_rows::length_of(file, places, n, placed_rows::wide(x));
     let bytes = placed_rows::bytes_of(file, places, n, placed_rows::wide(y));
-    let m = forest::descend(file, places, n, &area[..7680], x, a, bytes);
+    let m = forest::descend(file, places, n, area, x, a, bytes, 0);
     let r = m.row;
     let l = m.len;
     if l == a + bytes.len() { r } else { NONE }

@@ -15,30 +15,30 @@ use Rattle.search_area.specs.Area.{frontHalf, Holds}
 use Rattle.search_area.proofs.Halves.{front-length}
 use Rattle.search_fill.specs.Steps.{emptied, RowIn}
 
-module _ (area front : List ℕ) (A : 16384 ≤ length area) (f : length front ≡ 7680) where
-  written-length : length (front ++ drop 7680 area) ≡ length area
-  written-length = length-append front (drop 7680 area) ∙ omega (arith, length-drop 7680 area)
+module _ (area front : List ℕ) (A : 16384 ≤ length area) (f : length front ≡ 12544) where
+  written-length : length (front ++ drop 12544 area) ≡ length area
+  written-length = length-append front (drop 12544 area) ∙ omega (arith, length-drop 12544 area)
 
-  written-beyond : drop 7680 (front ++ drop 7680 area) ≡ drop 7680 area
-  written-beyond = drop-at front (drop 7680 area) 7680 f
+  written-beyond : drop 12544 (front ++ drop 12544 area) ≡ drop 12544 area
+  written-beyond = drop-at front (drop 12544 area) 12544 f
 
-  written-front : frontHalf (front ++ drop 7680 area) ≡ front
-  written-front = take-at front (drop 7680 area) 7680 f
+  written-front : frontHalf (front ++ drop 12544 area) ≡ front
+  written-front = take-at front (drop 12544 area) 12544 f
 
 -- it is emptied
-pub emptied-is : (area front : List ℕ) → front ≡ cleared (frontHalf area) → front ++ drop 7680 area ≡ emptied area
+pub emptied-is : (area front : List ℕ) → front ≡ cleared (frontHalf area) → front ++ drop 12544 area ≡ emptied area
 unfolding emptied
-emptied-is area front e = λ i. e i ++ drop 7680 area
+emptied-is area front e = λ i. e i ++ drop 12544 area
 
 module _ (area : List ℕ) (A : 16384 ≤ length area) where
-  cleared-size : length (cleared (frontHalf area)) ≡ 7680
+  cleared-size : length (cleared (frontHalf area)) ≡ 12544
   cleared-size = let l = front-length area A in length-cleared (frontHalf area) (omega arith) ∙ l
 
   pub emptied-length : length (emptied area) ≡ length area
   unfolding emptied
   emptied-length = written-length area (cleared (frontHalf area)) A cleared-size
 
-  pub emptied-beyond : drop 7680 (emptied area) ≡ drop 7680 area
+  pub emptied-beyond : drop 12544 (emptied area) ≡ drop 12544 area
   unfolding emptied
   emptied-beyond = written-beyond area (cleared (frontHalf area)) A cleared-size
 
@@ -49,9 +49,9 @@ module _ (area : List ℕ) (A : 16384 ≤ length area) where
 
 -- row c goes in
 pub row-inserted : (file places : List ℕ) (n : ℕ) (area front : List ℕ) (c : ℕ) → 16384 ≤ length area → Inserted (row file places n) n (frontHalf area) c front
-    → RowIn file places n area c (front ++ drop 7680 area)
+    → RowIn file places n area c (front ++ drop 12544 area)
 row-inserted file places n area front c A i =
-    let f : length front ≡ 7680 = i .kept ∙ front-length area A in
+    let f : length front ≡ 12544 = i .kept ∙ front-length area A in
     record {
       area-length = written-length area front A f;
       area-beyond = written-beyond area front A f;

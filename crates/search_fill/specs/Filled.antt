@@ -13,10 +13,10 @@ pub record Fillable (R : ℕ → List ℕ) (n : ℕ) : Type 0 where
   pub short : (c : ℕ) → c < n → length (R c) ≤ 64
   pub distinct : (c d : ℕ) → c < n → d < n → R c ≡ R d → c ≡ d
 
--- the search area area' finds every row, and its numbers from 7,680 on are those of area
+-- the search area area' finds every row, and its numbers from 12,544 on are those of area
 pub record AreaFilled (file places : List ℕ) (n : ℕ) (area area' : List ℕ) : Type 0 where
   pub area-length : length area' ≡ length area
-  pub area-beyond : drop 7680 area' ≡ drop 7680 area
+  pub area-beyond : drop 12544 area' ≡ drop 12544 area
   pub finds : Fillable (row file places n) n → Finds file places n area'
 
 -- the table prefixes' has the prefix of every row, and its entries from n on are those of prefixes

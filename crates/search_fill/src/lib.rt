@@ -12,7 +12,7 @@ fn empty(area: &mut [u32])
     requires { ⌜ 16384 ≤ length (now area) ⌝ }
     ensures { λ r. ⌜ now (area .exit) ≡ emptied (now (area .entry)) ⌝ }
 {
-    forest::clear(&mut area[..7680]);
+    forest::clear(&mut area[..12544]);
 }
 
 // Row c goes into the front half.
@@ -21,7 +21,7 @@ fn add_row(file: &[u8], places: &[u32], n: usize, area: &mut [u32], c: usize)
     requires { ⌜ (16384 ≤ length (now area)) × ((c < n) × (length (row (now file) (now places) n c) ≤ 64)) ⌝ }
     ensures { λ r. ⌜ RowIn (now (file .entry)) (now (places .entry)) n (now (area .entry)) c (now (area .exit)) ⌝ }
 {
-    forest::insert(file, places, n, &mut area[..7680], c);
+    forest::insert(file, places, n, &mut area[..12544], c);
 }
 
 // All rows of len bytes go in.

@@ -3,7 +3,7 @@ use mathlib.Core.Path.{_≡_}
 use mathlib.Core.List.{List, [], _++_}
 use mathlib.Core.Logic.{_⊎_}
 use mathlib.Core.Bool.{Bool, true, false, _&&_}
-use Prim.Native.Nat.{ℕ, _+_, _*_, _/_, _%_, _≤_, _<_}
+use Prim.Native.Nat.{ℕ, _+_, _-_, _*_, _/_, _%_, _≤_, _<_}
 use lib.ListN.{length, getD}
 use lib.Dec.{ltb, eqb}
 use Rattle.theory.specs.Dictionary.{Dictionary}
@@ -13,7 +13,7 @@ use Rattle.phrase_file.specs.Form.{rows}
 use Rattle.placed_rows.specs.Rows.{none, Placed}
 use Rattle.tables.specs.Ready.{PlacesReady, PartsReady}
 use Rattle.search_area.specs.Area.{Finds}
-use Rattle.marks.specs.Marks.{marked}
+use Rattle.marks.specs.Marks.{marked, bitKey}
 
 -- rows differ from each other
 abbrev pub Distinct : List ℕ → Type 0
@@ -31,9 +31,9 @@ pub record Tells (D : Dictionary) (file lefts rights : List ℕ) (q : ℕ) : Typ
 unfoldable pub pairKey : ℕ → ℕ → ℕ
 pairKey u v = (u % 4096 * 4096 + v % 4096) * 2654435769 % 4294967296 / 4096
 
--- the place, among the numbers 7,680 to 15,359 of the search area, of the row that has the two as its parts, if it is named there
+-- which of the 4,608 hints may name the row that has the two as its parts
 unfoldable pub hintPlace : ℕ → ℕ → ℕ
-hintPlace u v = 7680 + (u % 4096 * 4096 + v % 4096) * 2654435769 % 4294967296 * 7680 / 4294967296
+hintPlace u v = (u % 4096 * 4096 + v % 4096) * 2654435769 % 4294967296 * 4608 / 4294967296
 
 -- row c if it is below m, else none
 unfoldable pub rowBelow : ℕ → ℕ → ℕ
@@ -43,6 +43,29 @@ rowBelow c m = elim (ltb c m) [ true ↦ c | false ↦ none ]
 abbrev pub PairsMarked : List ℕ → List ℕ → List ℕ → ℕ → Type 0
 PairsMarked lefts rights area q = (c : ℕ) → c < q → getD lefts c 0 < c → marked area 15360 (pairKey (getD lefts c 0) (getD rights c 0)) ≡ true
 
+-- the seam of two bytes, one of 16,384
+unfoldable pub seamBit : ℕ → ℕ → ℕ
+seamBit a b = (a * 97 + b) % 16384
+
+-- its key, of one bit
+unfoldable pub seamKey : ℕ → ℕ → ℕ
+seamKey a b = bitKey (seamBit a b / 32) (seamBit a b % 32)
+
+-- the first and the last byte of row c
+unfoldable pub firstByte : List ℕ → ℕ → ℕ
+firstByte file c = getD (getD (rows file) c []) 0 0
+
+unfoldable pub lastByte : List ℕ → ℕ → ℕ
+lastByte file c = getD (getD (rows file) c []) (length (getD (rows file) c []) - 1) 0
+
+-- the key of the seam in row c behind as many bytes as row l has: of the last of these bytes and the next one
+unfoldable pub seamAt : List ℕ → ℕ → ℕ → ℕ
+seamAt file c l = seamKey (getD (getD (rows file) c []) (length (getD (rows file) l []) - 1) 0) (getD (getD (rows file) c []) (length (getD (rows file) l [])) 0)
+
+-- the marks of seams, numbers 14,848 to 15,359 of the search area: the seam between the parts of every longer row below q is marked
+abbrev pub SeamsMarked : List ℕ → List ℕ → List ℕ → ℕ → Type 0
+SeamsMarked file lefts area q = (c : ℕ) → c < q → getD lefts c 0 < c → marked area 14848 (seamAt file c (getD lefts c 0)) ≡ true
+
 -- what may be read: the rows, the parts of the rows below q, and two such rows
 pub record PairReady (file places lefts rights area : List ℕ) (n q u v : ℕ) : Type 0 where
   pub places-ready : PlacesReady file places n
@@ -51,6 +74,13 @@ pub record PairReady (file places lefts rights area : List ℕ) (n q u v : ℕ) 
   pub few : q ≤ n
   pub left-below : u < q
   pub right-below : v < q
+
+-- what may be read for the seam of two rows
+pub record SeamReady (file places area : List ℕ) (n u v : ℕ) : Type 0 where
+  pub places-ready : PlacesReady file places n
+  pub area-room : 16384 ≤ length area
+  pub left-below : u < n
+  pub right-below : v < n
 
 -- row c is below m, longer than a byte, and has u and v as its parts
 unfoldable pub listedIn : List ℕ → List ℕ → ℕ → ℕ → ℕ → ℕ → Bool
@@ -84,3 +114,7 @@ pub record IsJoined (file places lefts rights area : List ℕ) (n q m u v : ℕ)
 -- the answer is that of the pair check over the rows below q
 pub record PairIs (file places lefts rights area : List ℕ) (n q u v : ℕ) (r : Bool) : Type 0 where
   pub passes-is : (D : Dictionary) → Tells D file lefts rights q → Distinct file → Finds file places n area → PairsMarked lefts rights area q → r ≡ passes D q u v
+
+-- the answer is the same where the marks of seams are looked at too
+pub record PassIs (file places lefts rights area : List ℕ) (n q u v : ℕ) (r : Bool) : Type 0 where
+  pub passes-is : (D : Dictionary) → Tells D file lefts rights q → Distinct file → Finds file places n area → PairsMarked lefts rights area q → SeamsMarked file lefts area q → r ≡ passes D q u v

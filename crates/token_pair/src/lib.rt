@@ -1,14 +1,19 @@
 // The pair check: whether two codes may stand beside each other.
 ghost use mathlib.Core.Path.{_≡_};
-ghost use Prim.Native.Nat.{_≤_};
+ghost use Prim.Native.Nat.{_≤_, _<_};
 ghost use lib.ListN.{length};
 ghost use lib.Dec.{ltb, eqb};
 ghost use mathlib.Core.Bool.{_||_};
-ghost use Rattle.token_pair.specs.Pair.{pairKey, hintPlace, rowBelow, listedIn, JoinReady, JoinIs, IsJoined, PairReady, PairIs};
+ghost use Rattle.marks.specs.Marks.{marked};
+ghost use Rattle.token_pair.specs.Pair.{pairKey, hintPlace, rowBelow, seamBit, seamKey, firstByte, lastByte, listedIn, JoinReady, JoinIs, IsJoined, SeamReady, PairReady, PairIs, PassIs};
 use placed_rows::NONE;
+use placed_rows::bytes_of;
+use placed_rows::wide;
 
-// The numbers of the search area at which the hints and the marks of pairs begin.
-pub const HINTS: usize = 7680;
+// The numbers of the search area at which the hints, the marks of seams and the marks of pairs begin.
+pub const HINTS: usize = 12544;
+
+pub const SEAMS: usize = 14848;
 
 pub const PAIRS: usize = 15360;
 
@@ -45,12 +50,19 @@ fn is_listed_before(
     rights[i] == right
 }
 
-// Where the search area may name the row that has the two as its parts.
+// The hint that may name the row that has the two as its parts.
 pub fn hint_place(left: u32, right: u32) -> usize
     ensures { λ r. ⌜ r ≡ hintPlace left right ⌝ }
 {
     let pair = (left % 4096) as u64 * 4096 + (right % 4096) as u64;
-    HINTS + (pair * 2654435769 % 4294967296 * 7680 / 4294967296) as usize
+    (pair * 2654435769 % 4294967296 * 4608 / 4294967296) as usize
+}
+
+// A hint: two of them are the halves of one number. Nothing is promised of it.
+fn hint_at(area: &[u32], place: usize) -> u32
+    requires { ⌜ (place < 4608) × (16384 ≤ length (now area)) ⌝ }
+{
+    (area[HINTS + place / 2] >> (place % 2 * 16)) % 65536
 }
 
 // The row if it is below the bound, else NONE.
@@ -77,7 +89,7 @@ fn look_up(
     requires { ⌜ JoinReady (now file) (now places) (now lefts) (now rights) (now area) n limit bound left right ⌝ }
     ensures { λ r. ⌜ JoinIs (now (file .entry)) (now (places .entry)) (now (lefts .entry)) (now (rights .entry)) (now (area .entry)) n limit bound left right r ⌝ }
 {
-    let hint = area[hint_place(left, right)];
+    let hint = hint_at(area, hint_place(left, right));
     if is_listed_before(lefts, rights, hint, limit, left, right) {
         return row_below(hint, bound);
     }
@@ -220,4 +232,59 @@ pub fn is_valid_pair_below(
         bound = right + 1;
         right = right_part;
     }
+}
+
+// The seam of two bytes, one of 16,384.
+fn seam_bit(a: u8, b: u8) -> usize
+    ensures { λ r. ⌜ r ≡ seamBit a b ⌝ }
+{
+    (a as usize * 97 + b as usize) % 16384
+}
+
+// The key of a seam among the marks of seams.
+pub fn seam_key(a: u8, b: u8) -> usize
+    ensures { λ r. ⌜ r ≡ seamKey a b ⌝ }
+{
+    let seam = seam_bit(a, b);
+    seam / 32 * 1024 + seam % 32 * 33
+}
+
+// Whether the seam of two bytes is marked: if not, no row has a left part that ends in a and a right part that begins with b.
+fn may_join(area: &[u32], a: u8, b: u8) -> bool
+    requires { ⌜ 16384 ≤ length (now area) ⌝ }
+    ensures { λ r. ⌜ r ≡ marked (now (area .entry)) 14848 (seamKey a b) ⌝ }
+{
+    let seam = seam_bit(a, b);
+    marks::is_bit_marked(area, SEAMS, seam / 32, seam % 32)
+}
+
+// Whether the seam of two rows is marked.
+fn may_meet(file: &[u8], places: &[u32], n: usize, area: &[u32], left: u32, right: u32) -> bool
+    requires { ⌜ SeamReady (now file) (now places) (now area) n left right ⌝ }
+    ensures { λ r. ⌜ r ≡ marked (now (area .entry)) 14848 (seamKey (lastByte (now (file .entry)) left) (firstByte (now (file .entry)) right)) ⌝ }
+{
+    let before = bytes_of(file, places, n, wide(left));
+    let after = bytes_of(file, places, n, wide(right));
+    may_join(area, before[before.len() - 1], after[0])
+}
+
+// The pair check over the rows below `limit`, for two of them: they pass where their seam is not marked.
+pub fn is_valid_pair(
+    file: &[u8],
+    places: &[u32],
+    lefts: &[u32],
+    rights: &[u32],
+    area: &[u32],
+    n: usize,
+    limit: u32,
+    token1: u32,
+    token2: u32,
+) -> bool
+    requires { ⌜ PairReady (now file) (now places) (now lefts) (now rights) (now area) n limit token1 token2 ⌝ }
+    ensures { λ r. ⌜ PassIs (now (file .entry)) (now (places .entry)) (now (lefts .entry)) (now (rights .entry)) (now (area .entry)) n limit token1 token2 r ⌝ }
+{
+    if !may_meet(file, places, n, area, token1, token2) {
+        return true;
+    }
+    is_valid_pair_below(file, places, lefts, rights, area, n, limit, token1, token2)
 }

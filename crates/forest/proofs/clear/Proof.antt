@@ -11,14 +11,14 @@ use Rattle.forest.specs.Growth.{cleared}
 use Rattle.forest.proofs.clear.Statement.{statement}
 use Rattle.forest.proofs.clear.Tie as tie
 
-kept : (d e : List ℕ) (i : ℕ) → i ≤ 3584 → 7680 ≤ length d → e ≡ replicate i none ++ drop i d → length e ≡ length d
+kept : (d e : List ℕ) (i : ℕ) → i ≤ 8448 → 12544 ≤ length d → e ≡ replicate i none ++ drop i d → length e ≡ length d
 kept d e i h k f = ap length f ∙ length-append (replicate i none) (drop i d) ∙ omega (arith, length-replicate i none, length-drop i d)
 
 abbrev Inv-loop : tie.InvT-loop
-Inv-loop half₀ i₀ half i = (i ≤ 3584) × (half ≡ replicate i none ++ drop i half₀)
+Inv-loop half₀ i₀ half i = (i ≤ 8448) × (half ≡ replicate i none ++ drop i half₀)
 
 abbrev μ-loop : tie.MeasureT-loop
-μ-loop half₀ i₀ half i = 3584 - i
+μ-loop half₀ i₀ half i = 8448 - i
 
 loop-holds : tie.Need-loop-holds Inv-loop μ-loop
 loop-holds c = (omega arith, fill-none _ none)
@@ -47,7 +47,7 @@ returns : tie.Need-returns Inv-loop μ-loop
 unfolding cleared
 returns c =
     let l = c .before .loop in
-    let e : l .i ≡ 3584 = omega arith in
+    let e : l .i ≡ 8448 = omega arith in
     rw e at (l .inv .1)
 
 pub clear-spec : {M : Type 1} → statement M

@@ -3,49 +3,44 @@ use mathlib.Core.Path.{_≡_, refl, ap, sym, _∙_}
 use mathlib.Core.List.{List}
 use Prim.Native.Nat.{ℕ, _+_, _-_, _≤_}
 use native.Mathlib.Omega.{arith}
-use lib.ListN.{length, length-drop, take, drop}
-use lib.Seq.{take-all}
+use lib.ListN.{length, length-drop, drop}
 use borrow.Author.Needs.{needs}
 use borrow.Author.Tests.{not-true}
 use Rattle.placed_rows.specs.Rows.{row}
-use Rattle.forest.proofs.Searching.{search-one, search-unmarked}
-use Rattle.forest.proofs.Descending.{Descending, turn, descend-start, descend-stop, descend-end}
+use Rattle.forest.proofs.Places.{rest-at, first-cut, rest-later, head-at, one-at, unmarked-at, listed-at}
+use Rattle.forest.proofs.Descending.{Descending, Turn, turn, descend-start, descend-stop, descend-end}
 use Rattle.forest.proofs.descend.Statement.{statement}
 use Rattle.forest.proofs.descend.Tie as tie
 
 abbrev Inv-loop : tie.InvT-loop
-Inv-loop file places n half from len text best₀ size₀ best size = (len ≤ size) × ((size - len ≤ length text) × Descending (row file places n) n half from len text best size (size - len))
+Inv-loop file places n half from len text at best₀ size₀ end₀ best size end =
+    (at ≤ end) × ((end ≤ length text) × Descending (row file places n) n half from len (drop at text) best size (end - at))
 
 abbrev μ-loop : tie.MeasureT-loop
-μ-loop file places n half from len text best₀ size₀ best size = length text - (size - len)
+μ-loop file places n half from len text at best₀ size₀ end₀ best size end = length text - end
 
--- the rest of the text, as the code cuts it out
-rest-is : (t : List ℕ) (k : ℕ) → take (length t - k) (drop k t) ≡ drop k t
-rest-is t k = take-all (length t - k) (drop k t) (omega (arith, length-drop k t))
+-- no more bytes are used than the text has from the place on
+inside : (t : List ℕ) (k i : ℕ) → k ≤ i → i ≤ length t → i - k ≤ length (drop k t)
+inside t k i h l = omega (arith, length-drop k t)
 
 loop-holds : tie.Need-loop-holds Inv-loop μ-loop
 loop-holds c =
     let a = c .before .before .before .before .args in
-    let z : a .len - a .len ≡ 0 = omega arith in
-    (omega arith, (omega arith, rw z (descend-start _ _ _ _ _ _)))
-
-sub-loop : tie.Need-sub-loop Inv-loop μ-loop
-sub-loop c = search needs
-
-sub-rest : tie.Need-sub-rest Inv-loop μ-loop
-sub-rest c = search needs
-
-sub-rest-2 : tie.Need-sub-rest-2 Inv-loop μ-loop
-sub-rest-2 c = search needs
-
-part-rest-start : tie.Need-part-rest-start Inv-loop μ-loop
-part-rest-start c = search needs
-
-part-rest-end : tie.Need-part-rest-end Inv-loop μ-loop
-part-rest-end c = search needs
+    let z : a .at - a .at ≡ 0 = omega arith in
+    (omega arith, (omega (arith, c .before .before .before .before .pre .1 .1), rw z (descend-start _ _ _ _ _ _)))
 
 shared-slice-read-next : tie.Need-shared-slice-read-next Inv-loop μ-loop
 shared-slice-read-next c = search needs
+
+may-have-child-requires : tie.Need-may-have-child-requires Inv-loop μ-loop
+may-have-child-requires c κs = search needs
+
+returns : tie.Need-returns Inv-loop μ-loop
+returns c =
+    let l = c .before .before .before .before .loop in
+    let a = c .before .before .before .before .before .before .before .before .before .args in
+    descend-stop _ _ _ _ _ _ _ _ _ _ _ _ (inside _ _ _ (l .inv .0) (l .inv .1 .0)) (l .inv .1 .1)
+    (unmarked-at _ _ _ _ _ (a .text .now) (l .end) 0 (sym (c .before .may-have-child .ensures) ∙ not-true _ (c .if1 .taken))) (rest-later (a .text .now) (a .at) (l .end) (l .inv .0)) refl
 
 bucket-requires : tie.Need-bucket-requires Inv-loop μ-loop
 bucket-requires c κs = search needs
@@ -60,72 +55,89 @@ is-one-longer-requires : tie.Need-is-one-longer-requires Inv-loop μ-loop
 is-one-longer-requires c κs = search needs
 
 add-size : tie.Need-add-size Inv-loop μ-loop
-add-size c =
-    let o = c .before .is-one-longer .ensures (c .if1 .taken) in let z = o .one in let y = o .short in omega arith
+add-size c = let o = c .before .is-one-longer .ensures (c .if2 .taken) in let z = o .one in let y = o .short in omega arith
+
+add-end : tie.Need-add-end Inv-loop μ-loop
+add-end c = search needs
 
 loop-less : tie.Need-loop-less Inv-loop μ-loop
 loop-less c = search needs
 
 loop-again : tie.Need-loop-again Inv-loop μ-loop
 loop-again c =
-    let a = c .before .before .before .before .before .before .before .before .before .before .before .before .args in
-    let l = c .before .before .before .before .before .before .before .loop in
+    let s = c .before .before .before .before .before .before .before .before .before .before .before .before .before in
+    let a = s .args in
+    let l = c .before .before .before .before .before .before .before .before .loop in
     let h = c .before .before .before .bucket in
-    let o = c .before .is-one-longer .ensures (c .if1 .taken) in
-    let r : List ℕ = take (length (a .text .now) - (l .size - a .len)) (drop (l .size - a .len) (a .text .now)) in
-    let e : r ≡ drop (l .size - a .len) (a .text .now) = rest-is (a .text .now) (l .size - a .len) in
-    let long : length r ≡ length (a .text .now) - (l .size - a .len) = ap (λ (z : List ℕ). length z) e ∙ length-drop (l .size - a .len) (a .text .now) in
-    let t = turn _ _ _ _ _ _ _ _ _ _ _ _ (omega arith) (l .inv .1 .1)
-    (search-one _ _ _ _ _ r _ (h .result) (l .size + 1) (h .ensures .is) refl o (c .before .before .before .before .before .before .before .before .before .before .before .before .pre .0 .few)
-    (omega (arith, c .before .before .before .before .shared-slice-known5 .given 0))
-    (omega (arith, c .before .before .before .before .before .before .loop-test .taken))
+    let o = c .before .is-one-longer .ensures (c .if2 .taken) in
+    let t = turn _ _ _ _ _ _ _ _ _ _ _ _ (inside _ _ _ (l .inv .0) (l .inv .1 .0)) (l .inv .1 .1)
+    (one-at _ _ _ _ _ (a .text .now) (l .end) _ (h .result) (l .size + 1) (h .ensures .is) refl o (s .pre .0 .few)
+    (omega (arith, c .before .before .before .before .before .before .shared-slice-known5 .given (l .end)))
+    (omega (arith, c .before .before .before .before .before .before .before .loop-test .taken))
     (let z = o .one in omega arith)
     (let z = o .one in let y = o .short in omega arith))
-    e (λ z. let y = o .below in let x = c .before .before .before .before .before .before .before .before .before .before .before .before .pre .0 .few in omega arith) in
-    let z : l .size - a .len + (l .size + 1 - l .size) ≡ l .size + 1 - a .len = omega (arith, l .inv .0) in
-    (omega (arith, l .inv .0), (omega (arith, t .step .fits), rw z at (t .gone)))
+    (rest-later (a .text .now) (a .at) (l .end) (l .inv .0)) (λ z. let y = o .below in let x = s .pre .0 .few in omega arith) in
+    let z : l .end - a .at + (l .size + 1 - l .size) ≡ l .end + 1 - a .at = omega (arith, l .inv .0) in
+    (omega (arith, l .inv .0), (omega (arith, c .before .before .before .before .before .before .before .loop-test .taken), rw z at (t .gone)))
 
-may-have-child-requires : tie.Need-may-have-child-requires Inv-loop μ-loop
-may-have-child-requires c κs = search needs
+sub-listed-child : tie.Need-sub-listed-child Inv-loop μ-loop
+sub-listed-child c = search needs
 
-returns : tie.Need-returns Inv-loop μ-loop
-returns c =
-    let a = c .before .before .before .before .before .before .before .before .before .before .before .before .before .before .args in
-    let l = c .before .before .before .before .before .before .before .before .before .loop in
-    descend-stop _ _ _ _ _ _ _ _ _ _ _ _ (omega arith) (l .inv .1 .1) (search-unmarked _ _ _ _ _ _ 0 (sym (c .before .may-have-child .ensures) ∙ not-true _ (c .if2 .taken))) (rest-is (a .text .now) (l .size - a .len)) refl
+part-listed-child-start : tie.Need-part-listed-child-start Inv-loop μ-loop
+part-listed-child-start c = search needs
+
+part-listed-child-end : tie.Need-part-listed-child-end Inv-loop μ-loop
+part-listed-child-end c = search needs
 
 listed-child-requires : tie.Need-listed-child-requires Inv-loop μ-loop
 listed-child-requires c κs =
-    let a = c .before .before .before .before .before .before .before .before .before .before .before .before .before .before .args in
+    let s = c .before .before .before .before .before .before .before .before .before .before .before .before .before .before in
     let l = c .before .before .before .before .before .before .before .before .before .loop in
-    let e = ap (λ (z : List ℕ). length z) (rest-is (a .text .now) (l .size - a .len)) ∙ length-drop (l .size - a .len) (a .text .now) in
-    (c .before .before .before .before .before .before .before .before .before .before .before .before .before .before .pre .0, (c .before .before .before .before .before .before .before .before .before .before .before .before .before .before .pre .1, omega (arith, e, c .before .before .before .before .before .before .before .before .loop-test .taken)))
+    let text = s .args .text .now in
+    let e = ap (λ (z : List ℕ). length z) (rest-at text (l .end)) ∙ length-drop (l .end) text in
+    (s .pre .0, ((s .pre .1 .0, (omega (arith, e, c .before .before .before .before .before .before .before .before .loop-test .taken), head-at (s .args .half .now) (l .best) text (l .end) _ (c .before .before .before .before .bucket .ensures .is))), omega (arith, first-cut text (l .end), c .before .before .before .before .before .before .before .shared-slice-known5 .given (l .end))))
 
 returns-2 : tie.Need-returns-2 Inv-loop μ-loop
 returns-2 c =
     let a = c .before .before .before .before .before .before .before .before .before .before .before .before .before .before .before .before .args in
     let l = c .before .before .before .before .before .before .before .before .before .before .before .loop in
-    descend-stop _ _ _ _ _ _ _ _ _ _ _ _ (omega arith) (l .inv .1 .1) (c .before .listed-child .ensures) (rest-is (a .text .now) (l .size - a .len)) (c .if3 .taken)
+    descend-stop _ _ _ _ _ _ _ _ _ _ _ _ (inside _ _ _ (l .inv .0) (l .inv .1 .0)) (l .inv .1 .1) (listed-at _ _ _ _ _ (a .text .now) (l .end) _ _ (c .before .listed-child .ensures)) (rest-later (a .text .now) (a .at) (l .end) (l .inv .0)) (c .if3 .taken)
+
+-- what the child that the bucket has leaves
+gone : (c : tie.After-struct-known Inv-loop μ-loop)
+    → let a = c .before .before .before .before .before .before .before .before .before .before .before .before .before .before .before .before .before .args in let l = c .before .before .before .before .before .before .before .before .before .before .before .before .loop in let r = c .before .before .listed-child .result in
+    Turn (row (a .file .now) (a .places .now) (a .n)) (a .n) (a .half .now) (a .from) (a .len) (drop (a .at) (a .text .now)) (l .best) (l .size) (l .end - a .at) (r .row) (r .len)
+gone c =
+    let a = c .before .before .before .before .before .before .before .before .before .before .before .before .before .before .before .before .before .args in
+    let l = c .before .before .before .before .before .before .before .before .before .before .before .before .loop in
+    turn _ _ _ _ _ _ _ _ _ _ _ _ (inside _ _ _ (l .inv .0) (l .inv .1 .0)) (l .inv .1 .1) (listed-at _ _ _ _ _ (a .text .now) (l .end) _ _ (c .before .before .listed-child .ensures)) (rest-later (a .text .now) (a .at) (l .end) (l .inv .0)) (c .before .if3 .left)
+
+sub-end : tie.Need-sub-end Inv-loop μ-loop
+sub-end c = let t = gone c in omega (arith, t .step .longer)
+
+add-end-2 : tie.Need-add-end-2 Inv-loop μ-loop
+add-end-2 c =
+    let t = gone c in
+    let s = c .before .before .before .before .before .before .before .before .before .before .before .before .before .before .before .before .before in
+    let l = c .before .before .before .before .before .before .before .before .before .before .before .before .loop in
+    omega (arith, t .step .fits, t .step .longer, length-drop (s .args .at) (s .args .text .now), l .inv .0, l .inv .1 .0, s .good .1 .1 .1 .1 .1 .1 .0 .0)
 
 loop-less-2 : tie.Need-loop-less-2 Inv-loop μ-loop
-loop-less-2 c =
-    let a = c .before .before .before .before .before .before .before .before .before .before .before .before .before .before .before .before .args in
-    let l = c .before .before .before .before .before .before .before .before .before .before .before .loop in
-    let t = turn _ _ _ _ _ _ _ _ _ _ _ _ (omega arith) (l .inv .1 .1) (c .before .listed-child .ensures) (rest-is (a .text .now) (l .size - a .len)) (c .if3 .left) in
-    omega (arith, t .step .longer, t .step .fits)
+loop-less-2 c = let t = gone c in omega (arith, t .step .longer, t .step .fits, c .before .before .before .before .before .before .before .before .before .before .before .loop-test .taken)
 
 loop-again-2 : tie.Need-loop-again-2 Inv-loop μ-loop
 loop-again-2 c =
-    let a = c .before .before .before .before .before .before .before .before .before .before .before .before .before .before .before .before .args in
-    let l = c .before .before .before .before .before .before .before .before .before .before .before .loop in
-    let t = turn _ _ _ _ _ _ _ _ _ _ _ _ (omega arith) (l .inv .1 .1) (c .before .listed-child .ensures) (rest-is (a .text .now) (l .size - a .len)) (c .if3 .left) in
-    let z : l .size - a .len + (c .before .listed-child .result .len - l .size) ≡ c .before .listed-child .result .len - a .len = omega (arith, t .step .longer) in
-    (omega (arith, t .step .longer), (omega (arith, t .step .longer, t .step .fits), rw z at (t .gone)))
+    let t = gone c in
+    let a = c .before .before .before .before .before .before .before .before .before .before .before .before .before .before .before .before .before .args in
+    let l = c .before .before .before .before .before .before .before .before .before .before .before .before .loop in
+    let m = c .before .before .listed-child .result .len in
+    let z : l .end - a .at + (m - l .size) ≡ l .end + (m - l .size) - a .at = omega (arith, l .inv .0) in
+    (omega (arith, l .inv .0), (omega (arith, t .step .longer, t .step .fits, length-drop (a .at) (a .text .now), l .inv .0, l .inv .1 .0), rw z at (t .gone)))
 
 returns-3 : tie.Need-returns-3 Inv-loop μ-loop
 returns-3 c =
     let l = c .before .loop in
-    descend-end _ _ _ _ _ _ _ _ _ (omega arith) (l .inv .1 .1) (omega arith)
+    descend-end _ _ _ _ _ _ _ _ _ (inside _ _ _ (l .inv .0) (l .inv .1 .0)) (l .inv .1 .1) (omega (arith, length-drop (c .before .before .before .before .before .before .args .at) (c .before .before .before .before .before .before .args .text .now)))
 
 pub descend-spec : {M : Type 1} → statement M
 descend-spec =
@@ -134,23 +146,24 @@ descend-spec =
     Inv-loop
     μ-loop
     loop-holds
-    sub-loop
-    sub-rest
-    sub-rest-2
-    part-rest-start
-    part-rest-end
     shared-slice-read-next
+    may-have-child-requires
+    returns
     bucket-requires
     mul-w
     shared-slice-read-w
     is-one-longer-requires
     add-size
+    add-end
     loop-less
     loop-again
-    may-have-child-requires
-    returns
+    sub-listed-child
+    part-listed-child-start
+    part-listed-child-end
     listed-child-requires
     returns-2
+    sub-end
+    add-end-2
     loop-less-2
     loop-again-2
     returns-3)

@@ -32,7 +32,7 @@ returns-2 c =
     let a = s .args in
     let f = c .before .row-of .ensures .is in
     record {
-      is = ap (λ (i : ℕ). 3584 + i) f ∙ sym (place-in (a .half .now) (a .n) (a .h) (omega (arith, f, c .if1 .left)));
+      is = ap (λ (i : ℕ). 8448 + i) f ∙ sym (place-in (a .half .now) (a .n) (a .h) (omega (arith, f, c .if1 .left)));
       below = omega (arith, s .pre .0, c .if1 .left);
     }
 

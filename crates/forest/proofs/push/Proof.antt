@@ -34,7 +34,7 @@ slice-write-half-2 c =
     let s = c .before .before .before .before in
     let a = s .args in
     let p = c .before .place in
-    omega (arith, p .ensures .below, s .pre .1 .1 .1, length-set (a .half .now) (3584 + a .c) (getD (a .half .now) (p .result) 0))
+    omega (arith, p .ensures .below, s .pre .1 .1 .1, length-set (a .half .now) (8448 + a .c) (getD (a .half .now) (p .result) 0))
 
 same-length : tie.Need-same-length
 same-length c = search needs

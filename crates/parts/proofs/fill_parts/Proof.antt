@@ -2,7 +2,7 @@
 use Prim.Native.Nat.{_-_}
 use native.Mathlib.Omega.{arith}
 use mathlib.Core.Path.{_∙_}
-use Rattle.parts.proofs.Filling.{Filling, fit-kept, filled-kept, filling-start, filling-looks, filling-done, filling-stops, filling-writes, filling-goes-on}
+use Rattle.parts.proofs.Filling.{Filling, fit-kept, filled-kept, filling-start, filling-looks, filling-done, filling-stops, filling-writes, filling-cuts, filling-goes-on}
 use borrow.Author.Needs.{needs}
 use Rattle.parts.proofs.fill_parts.Statement.{statement}
 use Rattle.parts.proofs.fill_parts.Tie as tie
@@ -40,14 +40,17 @@ returns c = filled-kept _ _ _ _ _ _ (c .before .before .before .before .before .
 write-parts-requires : tie.Need-write-parts-requires Inv-loop μ-loop
 write-parts-requires c κs = filling-writes _ _ _ _ _ _ _ (fit-kept _ _ _ _ _ _ (c .before .before .before .before .before .before .before .before .before .before .before .before .empty-pairs .ensures .kept) _ _ (c .before .before .before .before .before .before .before .before .before .before .before .before .before .before .before .before .before .before .before .before .pre)) _ _ _ _ (c .before .before .before .before .before .before .before .before .before .loop .inv) _ _ (omega arith) (c .before .before .before .before .find-parts .ensures)
 
+mark-seam-requires : tie.Need-mark-seam-requires Inv-loop μ-loop
+mark-seam-requires c κs = filling-cuts _ _ _ _ _ _ _ (fit-kept _ _ _ _ _ _ (c .before .before .before .before .before .before .before .before .before .before .before .before .before .before .before .before .before .before .before .before .empty-pairs .ensures .kept) _ _ (c .before .before .before .before .before .before .before .before .before .before .before .before .before .before .before .before .before .before .before .before .before .before .before .before .before .before .before .before .pre)) _ _ _ _ (c .before .before .before .before .before .before .before .before .before .before .before .before .before .before .before .before .before .loop .inv) _ _ (omega arith) (c .before .before .before .before .before .before .before .before .before .before .before .before .find-parts .ensures) (c .before .before .before .before .before .before .before .before .before .before .before .if1 .left) _ _ _ (c .before .before .before .before .before .before .before .write-parts .ensures)
+
 add-w : tie.Need-add-w Inv-loop μ-loop
-add-w c = search needs
+add-w c = omega (arith, c .before .before .before .before .before .before .before .before .before .before .before .before .before .before .before .before .before .before .before .before .loop .inv .few, c .before .before .before .before .before .before .before .before .before .before .before .before .before .before .before .before .before .before .before .before .before .before .before .before .before .before .before .before .before .before .before .pre .rows-found .places-ready .placed .few)
 
 loop-less : tie.Need-loop-less Inv-loop μ-loop
 loop-less c = omega arith
 
 loop-again : tie.Need-loop-again Inv-loop μ-loop
-loop-again c = filling-goes-on _ _ _ _ _ _ _ (fit-kept _ _ _ _ _ _ (c .before .before .before .before .before .before .before .before .before .before .before .before .before .before .before .before .before .before .before .empty-pairs .ensures .kept) _ _ (c .before .before .before .before .before .before .before .before .before .before .before .before .before .before .before .before .before .before .before .before .before .before .before .before .before .before .before .pre)) _ _ _ _ (c .before .before .before .before .before .before .before .before .before .before .before .before .before .before .before .before .loop .inv) _ _ (omega arith) (c .before .before .before .before .before .before .before .before .before .before .before .find-parts .ensures) (c .before .before .before .before .before .before .before .before .before .before .if1 .left) _ _ _ (c .before .before .before .before .before .before .write-parts .ensures)
+loop-again c = filling-goes-on _ _ _ _ _ _ _ (fit-kept _ _ _ _ _ _ (c .before .before .before .before .before .before .before .before .before .before .before .before .before .before .before .before .before .before .before .before .before .before .before .empty-pairs .ensures .kept) _ _ (c .before .before .before .before .before .before .before .before .before .before .before .before .before .before .before .before .before .before .before .before .before .before .before .before .before .before .before .before .before .before .before .pre)) _ _ _ _ (c .before .before .before .before .before .before .before .before .before .before .before .before .before .before .before .before .before .before .before .before .loop .inv) _ _ (omega arith) (c .before .before .before .before .before .before .before .before .before .before .before .before .before .before .before .find-parts .ensures) (c .before .before .before .before .before .before .before .before .before .before .before .before .before .before .if1 .left) _ _ _ _ (c .before .before .before .before .before .before .before .before .before .before .write-parts .ensures) (c .before .before .mark-seam .ensures)
 
 same-length-4 : tie.Need-same-length-4 Inv-loop μ-loop
 same-length-4 c = c .before .loop .inv .lefts-length
@@ -76,6 +79,7 @@ fill-parts-spec =
     same-length-3
     returns
     write-parts-requires
+    mark-seam-requires
     add-w
     loop-less
     loop-again

@@ -1,7 +1,7 @@
+-- A hint's number has changed, and no other. Assumes nothing.
 use native.Mathlib.Omega.{arith}
-use Rattle.token_pair.proofs.Keys.{hint-inside}
-use Rattle.parts.proofs.Marking.{named-set, named-none}
--- A row is named, or the area stays as it is. Assumes nothing.
+use Rattle.token_pair.proofs.Keys.{hint-below}
+use Rattle.parts.proofs.Marking.{named-set}
 use borrow.Author.Needs.{needs}
 use Rattle.parts.proofs.name_row.Statement.{statement}
 use Rattle.parts.proofs.name_row.Tie as tie
@@ -9,40 +9,40 @@ use Rattle.parts.proofs.name_row.Tie as tie
 hint-place-requires : tie.Need-hint-place-requires
 hint-place-requires c κs = search needs
 
-mul-if1 : tie.Need-mul-if1
-mul-if1 c = let z = hint-inside _ _ _ (c .hint-place .ensures) .1 in omega arith
+add-at : tie.Need-add-at
+add-at c = search needs
 
-slice-read-if1 : tie.Need-slice-read-if1
-slice-read-if1 c = let z = hint-inside _ _ _ (c .before .hint-place .ensures) .1 in omega (arith, c .before .before .before .pre .1)
+mul-with-row : tie.Need-mul-with-row
+mul-with-row c = omega (arith, hint-below _ _ _ (c .hint-place .ensures))
 
-cast-area : tie.Need-cast-area
-cast-area c = search needs
+slice-read-with-row : tie.Need-slice-read-with-row
+slice-read-with-row c = omega (arith, hint-below _ _ _ (c .before .hint-place .ensures), c .before .before .before .pre .1)
+
+with-row-requires : tie.Need-with-row-requires
+with-row-requires c κs = search needs
 
 mul-area : tie.Need-mul-area
-mul-area c = let z = hint-inside _ _ _ (c .before .before .hint-place .ensures) .1 in omega arith
+mul-area c = omega (arith, hint-below _ _ _ (c .before .before .hint-place .ensures))
 
 slice-write-area : tie.Need-slice-write-area
-slice-write-area c = let z = hint-inside _ _ _ (c .before .before .hint-place .ensures) .1 in omega (arith, c .before .before .before .before .pre .1)
+slice-write-area c = omega (arith, hint-below _ _ _ (c .before .before .hint-place .ensures), c .before .before .before .before .pre .1)
 
 same-length : tie.Need-same-length
 same-length c = search needs
 
 returns : tie.Need-returns
-returns c = named-set _ _ _ (hint-inside _ _ _ (c .before .before .hint-place .ensures))
-
-returns-2 : tie.Need-returns-2
-returns-2 c = named-none _
+returns c = named-set _ _ _ (hint-below _ _ _ (c .before .before .hint-place .ensures))
 
 pub name-row-spec : {M : Type 1} → statement M
 name-row-spec =
     tie.close
     (tie.spec
     hint-place-requires
-    mul-if1
-    slice-read-if1
-    cast-area
+    add-at
+    mul-with-row
+    slice-read-with-row
+    with-row-requires
     mul-area
     slice-write-area
     same-length
-    returns
-    returns-2)
+    returns)

@@ -1,16 +1,11 @@
 -- Rests on the descent in the front half: where it uses all bytes, the longest row is the row with these bytes. Assumes nothing.
-use mathlib.Core.Path.{sym}
-use native.Mathlib.Omega.{arith}
-use Rattle.search_area.proofs.Halves.{front-length}
+use borrow.Author.Needs.{needs}
 use Rattle.search_area.proofs.Looking.{find-hit, find-miss}
 use Rattle.search_area.proofs.find.Statement.{statement}
 use Rattle.search_area.proofs.find.Tie as tie
 
-slice-aggregate-longest : tie.Need-slice-aggregate-longest
-slice-aggregate-longest c = let s = c .before .before .before .before .before in sym (front-length (s .args .area .now) (s .pre .1))
-
 longest-requires : tie.Need-longest-requires
-longest-requires c κs = let s = c .before .before .before .before .before in (s .pre .0, omega (arith, front-length (s .args .area .now) (s .pre .1)))
+longest-requires c κs = search needs
 
 returns : tie.Need-returns
 returns c = find-hit _ _ _ _ _ _ _ (c .before .longest .ensures) (c .if1 .taken)
@@ -19,4 +14,4 @@ returns-2 : tie.Need-returns-2
 returns-2 c = find-miss _ _ _ _ _ _ _ (c .before .longest .ensures) (c .if1 .left)
 
 pub find-spec : {M : Type 1} → statement M
-find-spec = tie.close (tie.spec slice-aggregate-longest longest-requires returns returns-2)
+find-spec = tie.close (tie.spec longest-requires returns returns-2)

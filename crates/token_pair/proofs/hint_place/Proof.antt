@@ -23,9 +23,6 @@ mul-result c = search needs
 mul-result-2 : tie.Need-mul-result-2
 mul-result-2 c = search needs
 
-add-result : tie.Need-add-result
-add-result c = search needs
-
 returns : tie.Need-returns
 unfolding hintPlace
 returns c = refl
@@ -33,4 +30,4 @@ returns c = refl
 pub hint-place-spec : {M : Type 1} → statement M
 hint-place-spec =
     tie.close
-    (tie.spec cast-pair mul-pair cast-pair-2 add-pair mul-result mul-result-2 add-result returns)
+    (tie.spec cast-pair mul-pair cast-pair-2 add-pair mul-result mul-result-2 returns)

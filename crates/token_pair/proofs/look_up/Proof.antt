@@ -1,6 +1,6 @@
 -- A hint that has the two as its parts is the row; else their join decides. Assumes nothing.
 use native.Mathlib.Omega.{arith}
-use Rattle.token_pair.proofs.Keys.{hint-inside}
+use Rattle.token_pair.proofs.Keys.{hint-below}
 use Rattle.token_pair.proofs.Joins.{joins-listed, joins-hinted, joins-other}
 use borrow.Author.Needs.{needs}
 use Rattle.token_pair.proofs.look_up.Statement.{statement}
@@ -9,11 +9,8 @@ use Rattle.token_pair.proofs.look_up.Tie as tie
 hint-place-requires : tie.Need-hint-place-requires
 hint-place-requires c κs = search needs
 
-mul-hint : tie.Need-mul-hint
-mul-hint c = omega (arith, hint-inside _ _ _ (c .hint-place .ensures))
-
-shared-slice-read-hint : tie.Need-shared-slice-read-hint
-shared-slice-read-hint c = let z = hint-inside _ _ _ (c .before .hint-place .ensures) .1 in omega (arith, c .before .before .before .before .before .before .before .pre .area-room)
+hint-at-requires : tie.Need-hint-at-requires
+hint-at-requires c κs = (hint-below _ _ _ (c .hint-place .ensures), c .before .before .before .before .before .before .pre .area-room)
 
 is-listed-before-requires : tie.Need-is-listed-before-requires
 is-listed-before-requires c κs = search needs
@@ -41,8 +38,7 @@ look-up-spec =
     tie.close
     (tie.spec
     hint-place-requires
-    mul-hint
-    shared-slice-read-hint
+    hint-at-requires
     is-listed-before-requires
     row-below-requires
     returns

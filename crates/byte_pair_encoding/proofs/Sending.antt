@@ -67,15 +67,16 @@ module _ (file placeTable lefts rights prefixes area text out work : List ℕ) (
   codes-below : (out' : List ℕ) (count : ℕ) → ((i : ℕ) → i < count → getD out' i 0 < n) → (i : ℕ) → i < count → getD out' i 0 < length (rows file)
   codes-below out' count h i l = omega (arith, h i l, p .count)
 
-  pub bitfield-ready : Merge.EncodeReady file placeTable area n text out work
+  pub bitfield-ready : Merge.EncodeReady file placeTable lefts rights area n text out work
   bitfield-ready = record {
     rows-ready = record { places-ready = p .tables .places-ready; area-room = p .tables .area-room };
+    parts-ready = p .tables .parts-ready;
     short = p .short;
     out-room = p .out-room;
     work-room = p .work-room;
   }
 
-  pub bitfield-sent : (out' work' : List ℕ) (count : ℕ) → Merge.Encoded file placeTable area n text out out' work work' count
+  pub bitfield-sent : (out' work' : List ℕ) (count : ℕ) → Merge.Encoded file placeTable lefts rights area n text out out' work work' count
       → Sends encode file placeTable lefts rights prefixes area text out work out' work' (Number count)
   bitfield-sent out' work' count s =
       sent encode file placeTable lefts rights prefixes area text out work n count out' work' p
@@ -87,7 +88,7 @@ module _ (file placeTable lefts rights prefixes area text out work : List ℕ) (
         work-length = s .work-length;
         work-beyond = s .work-beyond;
       })
-      (λ B. let r = s .built lefts rights prefixes B in (r .count, r .codes))
+      (λ B. let r = s .built prefixes B in (r .count, r .codes))
 
   pub backtracking-ready : OutputReady file placeTable lefts rights prefixes area n text out work
   backtracking-ready = record { ready = record { tables = p .tables; short = p .short; room = p .work-room }; out-room = p .out-room }

@@ -110,7 +110,17 @@ pub fn encode_via_bitfield(
 {
     match checked(file, places, lefts, rights, prefixes, area, text, out, work) {
         Check::Rows(n) => {
-            let merged = encode_via_bitfield_core(file, places, area, n, text, out, work);
+            let merged = encode_via_bitfield_core(
+                file,
+                places,
+                lefts,
+                rights,
+                area,
+                n,
+                text,
+                out,
+                work,
+            );
             Answer::Number(merged)
         }
         Check::Refused(cause) => Answer::Refused(cause),

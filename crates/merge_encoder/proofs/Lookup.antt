@@ -1,21 +1,18 @@
--- The row of a byte and the key of two codes, as the search area answers them, in terms of the definitions. Assumes nothing.
+-- The row of a byte, as the search area answers it, in terms of the definitions. Assumes nothing.
 use mathlib.Core.Path.{_≡_, sym, subst, _∙_}
-use mathlib.Core.Logic.{_⊎_, ⊎-elim}
-use mathlib.Core.List.{List, [], _∷_, _++_}
-use Prim.Native.Nat.{ℕ, _+_, _-_, _*_, _≤_, _<_}
+use mathlib.Core.Logic.{⊎-elim}
+use mathlib.Core.List.{List, [], _∷_}
+use Prim.Native.Nat.{ℕ, _+_, _-_, _<_}
 use native.Mathlib.Omega.{arith}
 use lib.ListN.{length, getD, take, drop}
 use lib.Seq.{drop-cons}
 use Rattle.placed_rows.specs.Rows.{none, row}
 use Rattle.search_area.specs.Answers.{Found}
-use Rattle.theory.specs.Merge.{join}
-use Rattle.theory.proofs.Lists.{lt-or-ge}
-use Rattle.theory.proofs.Merge.{rowBelow-is, rowBelow-le, distinct, join-is}
+use Rattle.theory.proofs.Merge.{distinct}
 use Rattle.built.specs.Built.{dictionaryOf, Built}
 use Rattle.built.proofs.Rows.{count-is, row-bytes, lawful-is, known}
-use Rattle.built.proofs.Lookups.{join-some, join-none}
 use Rattle.merge_encoder.specs.Encoding.{RowsReady}
-use Rattle.merge_encoder.specs.Steps.{ByteCode, JoinKey}
+use Rattle.merge_encoder.specs.Steps.{ByteCode}
 
 -- the part of a text that is the byte at a place
 one-byte : (t : List ℕ) (i : ℕ) → i < length t → take (i + 1 - i) (drop i t) ≡ getD t i 0 ∷ []
@@ -55,36 +52,4 @@ module _ (file placeTable area : List ℕ) (n : ℕ) (R : RowsReady file placeTa
           let o = own lefts rights prefixes B in
           distinct (dictionaryOf file) A c (dictionaryOf file .code b) (omega (arith, j .0)) (omega arith)
           (sym (row-bytes file placeTable lefts rights prefixes area n B c (j .0)) ∙ j .1 ∙ sym (A .laws .byte b));
-    }
-
-  -- w answers the search for the joined bytes of x and y
-  module _ (x y place w : ℕ) (hx : x < n) (hy : y < n) (hp : place < 4096) (f : Found file placeTable n area (row file placeTable n x ++ row file placeTable n y) w) where
-    few : n ≤ 4096
-    few = R .places-ready .placed .few
-
-    pub no-join : w ≡ none → JoinKey file placeTable area n x y place none
-    no-join e = record {
-      at = λ h. absurd (omega (arith, few));
-      built = λ lefts rights prefixes B.
-          let D = dictionaryOf file in
-          let k = count-is file placeTable lefts rights prefixes area n B in
-          let m = rowBelow-le D (D .count) (D .bytes x ++ D .bytes y) (omega arith) in
-          ⊎-elim
-          (λ l. absurd (join-none file placeTable lefts rights prefixes area n B x y w hx hy f e (join D x y) (omega arith) (rowBelow-is D (D .count) (D .bytes x ++ D .bytes y) l)))
-          (λ l. omega (arith, few))
-          (lt-or-ge (join D x y) (D .count));
-    }
-
-    pub join-below : (w ≡ none → ⊥) → w < n
-    join-below s = ⊎-elim (λ e. absurd (s e)) (λ h. h) (f .bound)
-
-    pub some-join : (w ≡ none → ⊥) → JoinKey file placeTable area n x y place (w * 4096 + place)
-    some-join s = record {
-      at = λ h. omega arith;
-      built = λ lefts rights prefixes B.
-          let A = lawful-is file placeTable lefts rights prefixes area n B in
-          let k = count-is file placeTable lefts rights prefixes area n B in
-          let j = join-some file placeTable lefts rights prefixes area n B x y w hx hy f s in
-          let e = join-is (dictionaryOf file) A w x y (omega (arith, j .0)) (sym (j .1)) in
-          omega (arith, j .0);
     }

@@ -1,127 +1,117 @@
--- One key found anew, and the turn of the merge procedure that needs two of them. Assumes nothing.
-use mathlib.Core.Path.{_≡_, sym, ap, _∙_}
-use mathlib.Core.Logic.{_⊎_, ⊎-elim}
-use mathlib.Core.List.{List, _∷_, _++_}
-use mathlib.Core.Bool.{Bool, false}
-use Prim.Native.Nat.{ℕ, suc, _+_, _-_, _*_, _≤_, _<_}
+-- One key found anew: the row that has two codes as its parts, in terms of the dictionary, and its place in the queue of the row. Assumes nothing.
+use mathlib.Core.Path.{_≡_, refl, sym, _∙_}
+use mathlib.Core.Logic.{⊎-elim}
+use mathlib.Core.List.{List}
+use mathlib.Core.Bool.{true, false}
+use Prim.Native.Nat.{ℕ, _≤_, _<_}
+use native.Mathlib.Decide.{ℕ-discrete}
 use native.Mathlib.Omega.{arith}
-use lib.ListN.{length, length-set, getD, drop, set}
-use lib.Seq.{getD-set-same, getD-set-other, drop-set-lt}
-use Rattle.bitfield.specs.Bits.{isSet, without}
-use Rattle.bitfield.proofs.Without.{without-same, without-other}
+use lib.Dec.{eqb}
+use lib.ListN.{length, length-set, getD}
+use lib.Seq.{getD-set-same, getD-set-other}
+use borrow.Author.Tests.{eqb-true}
 use Rattle.placed_rows.specs.Rows.{none}
-use Rattle.theory.proofs.Lists.{lt-or-ge, nil-cons}
-use Rattle.merge_encoder.specs.Encoding.{RowsReady, Codes}
-use Rattle.merge_encoder.specs.Tree.{Tree, TreePut}
-use Rattle.merge_encoder.specs.Live.{live, NextLive, LastLive}
-use Rattle.merge_encoder.specs.Steps.{JoinKey, NextKey, KeysReady, Renewed, Keyed, LeastAt, Turned}
-use Rattle.merge_encoder.proofs.Turning.{next-some, next-none, joined, next-after, next-last, keys-after}
-use Rattle.merge_encoder.proofs.Least.{Here, here-is}
+use Rattle.theory.specs.Dictionary.{Dictionary}
+use Rattle.theory.specs.Paper.{listed}
+use Rattle.theory.proofs.Lists.{true-false, eqb-eq}
+use Rattle.theory.proofs.PairSteps.{listed-one}
+use Rattle.theory.proofs.Stage.{spell-hit}
+use Rattle.theory.proofs.Merge.{distinct}
+use Rattle.token_pair.specs.Pair.{PairReady, JoinReady, JoinIs}
+use Rattle.built.specs.Built.{dictionaryOf, Built}
+use Rattle.built.proofs.Rows.{count-is, places-ready, lawful-is, tells, distinct-rows}
+use Rattle.built.proofs.InForm.{ready}
+use Rattle.merge_encoder.specs.Queues.{PushReady, Pushed}
+use Rattle.merge_encoder.specs.Steps.{JoinKey, RenewReady, Renewed, Later}
 
-module _ (file places area : List ℕ) (n len : ℕ) (work : List ℕ) (bits : ℕ → Bool) (tree : List ℕ) (at next : ℕ) (R : RowsReady file places area n) (N : NextLive bits at len next) where
-  pub renewed-none : (tree' : List ℕ) → next ≡ len → TreePut (len + 1) tree at none tree' → Renewed file places area n len work bits tree at tree'
-  renewed-none tree' e P = record {
-    nodes = P .tree;
-    here = rw (next-none bits work len at next N e, P .here) (omega (arith, R .places-ready .placed .few));
-    others = λ i h. P .others i h;
-  }
+-- k is the row below n that has x and y as its parts, or none
+module _ (file places lefts rights area : List ℕ) (n x y k : ℕ) (hx : x < n) (hy : y < n) (J : JoinIs file places lefts rights area n n n x y k) where
+  module _ (prefixes : List ℕ) (B : Built file places lefts rights prefixes area n) where
+    abbrev D : Dictionary
+    D = dictionaryOf file
 
-  pub renewed-some : (tree' : List ℕ) (k : ℕ) → (next ≡ len → ⊥) → JoinKey file places area n (getD work at 0) (getD work next 0) at k → TreePut (len + 1) tree at k tree'
-      → Renewed file places area n len work bits tree at tree'
-  renewed-some tree' k h J P = record {
-    nodes = P .tree;
-    here = rw (next-some bits work len at next N (omega (arith, N .most)), P .here) J;
-    others = λ i h. P .others i h;
-  }
+    pair-ready : PairReady file places lefts rights area n n x y
+    pair-ready = record {
+      places-ready = places-ready file places lefts rights prefixes area n B;
+      parts-ready = ready file places lefts rights prefixes area n B .parts-ready;
+      area-room = B .area-room;
+      few = omega arith;
+      left-below = hx;
+      right-below = hy;
+    }
 
-module _ (file places area : List ℕ) (n len : ℕ) (words work tree : List ℕ) (at row : ℕ)
-    (R : RowsReady file places area n) (K : Keyed file places area n len words work tree) (L : LeastAt n tree at row) where
-  H : Here file places area n len words work tree K at row
-  H = here-is file places area n len words work tree K at row L
+    some : (k ≡ none → ⊥) → listed (dictionaryOf file) k x y ≡ true
+    some z = J .is z pair-ready D (tells file places lefts rights prefixes area n B) (distinct-rows file places lefts rights prefixes area n B) (B .finds)
 
-  pub at-below : at < len
-  at-below = H .below
+    only : (r : ℕ) → r < n → listed (dictionaryOf file) r x y ≡ true → Dec (k ≡ none) → k ≡ r
+    only r h e (yes z) =
+        absurd (true-false (sym (listed-one D n x y r h e) ∙ J .nothing z pair-ready D (tells file places lefts rights prefixes area n B) (distinct-rows file places lefts rights prefixes area n B) (B .finds) (B .pairs-marked)))
+    only r h e (no z) =
+        let L = lawful-is file places lefts rights prefixes area n B in
+        let c = count-is file places lefts rights prefixes area n B in
+        let l : k < n = ⊎-elim (λ w. absurd (z w)) (λ w. w) (J .bound) in
+        distinct D L k r (omega arith) (omega arith) (sym (spell-hit D (L .laws) k x y (some z)) ∙ spell-hit D (L .laws) r x y e)
 
-  module _ (next : ℕ) (N : NextLive (isSet words) at len next) where
-    pub next-below : next < len
-    next-below = ⊎-elim
-        (λ l. l)
-        (λ l. absurd (nil-cons (sym (next-none (isSet words) work len at next N (omega (arith, N .most))) ∙ H .rest)))
-        (lt-or-ge next len)
+  pub join-key : JoinKey file places lefts rights area n x y k
+  join-key = record { bound = J .bound; built = λ prefixes B. record { is = some prefixes B; only = λ r h e. only prefixes B r h e (ℕ-discrete k none) } }
 
-    module _ (after : ℕ) (A : NextLive (isSet words) next len after) (last : ℕ) (B : LastLive (isSet words) at last)
-        (words' : List ℕ) (cleared : isSet words' ≡ without (isSet words) next) (tree1 : List ℕ) (P : TreePut (len + 1) tree next none tree1) where
-      gone : isSet words' next ≡ false
-      gone = ap (λ (f : ℕ → Bool). f next) cleared ∙ without-same (isSet words) next
+module _ (file places lefts rights area : List ℕ) (n len : ℕ) (work keys heads pool : List ℕ) (count at next : ℕ) (R : RenewReady file places lefts rights area n len work keys heads pool count at next) where
+  at-room : at < length keys
+  at-room = omega (arith, R .keys-room, R .at-below, R .codes-ready .few)
 
-      same : (p : ℕ) → (p ≡ next → ⊥) → isSet words' p ≡ isSet words p
-      same p h = ap (λ (f : ℕ → Bool). f p) cleared ∙ without-other (isSet words) next p h
+  module _ (row : ℕ) (keys' heads' pool' : List ℕ) (r : ℕ) (P : Pushed keys heads pool count at row keys' heads' pool' r) where
+    here : getD keys' at 0 ≡ row
+    here = rw (P .is) (getD-set-same keys at row 0 at-room)
 
-      room : at < length work
-      room = omega (arith, K .room, at-below)
+    renewed : (next ≡ len → row ≡ none) → (next < len → JoinKey file places lefts rights area n (getD work at 0) (getD work next 0) row)
+        → Renewed file places lefts rights area n len work keys heads pool count at next keys' heads' pool' r
+    renewed f g = record {
+      keys-room = rw (P .is) (length-set keys at row ∙ R .keys-room);
+      last = λ e. here ∙ f e;
+      here = λ l. rw here (g l);
+      others = λ i h. rw (P .is) (getD-set-other keys at i row 0 h);
+      longer = P .longer;
+      few = P .few;
+      fresh = λ s. rw here (P .fresh (λ z. s (here ∙ z)));
+    }
 
-      codes' : Codes len (set work at row) n
-      codes' i h = ⊎-elim
-          (λ l. rw (getD-set-other work at i row 0 (λ z. omega arith)) (K .codes i h))
-          (λ l. ⊎-elim
-          (λ m. rw (getD-set-other work at i row 0 (λ z. omega arith)) (K .codes i h))
-          (λ m. let e : i ≡ at = omega arith in rw (e, getD-set-same work at row 0 room) (L .below))
-          (lt-or-ge at i))
-          (lt-or-ge i at)
+  pub renewed-last : (keys' heads' pool' : List ℕ) (r : ℕ) → next ≡ len → Pushed keys heads pool count at none keys' heads' pool' r
+      → Renewed file places lefts rights area n len work keys heads pool count at next keys' heads' pool' r
+  renewed-last keys' heads' pool' r e P = renewed none keys' heads' pool' r P (λ _. refl) (λ l. absurd (omega arith))
 
-      -- what the search for a key needs
-      pub ready : (tree' : List ℕ) → Tree (len + 1) tree' → KeysReady n len (set work at row) tree'
-      ready tree' T = record { few = K .few; room = omega (arith, K .room, length-set work at row); codes = codes'; fits = T .fits }
+  module _ (h : next ≡ len → ⊥) where
+    pub join-ready : JoinReady file places lefts rights area n n n (getD work at 0) (getD work next 0)
+    join-ready = record {
+      placed = R .tables .rows-ready .places-ready .placed;
+      area-room = R .tables .rows-ready .area-room;
+      left-room = R .tables .parts-ready .left-room;
+      right-room = R .tables .parts-ready .right-room;
+      below = omega arith;
+      left-below = R .codes-ready .codes at (R .at-below);
+      right-below = R .codes-ready .codes next (omega (arith, R .next-below));
+    }
 
-      pub after-at : NextLive (isSet words') at len after
-      after-at = next-after (isSet words) (isSet words') work len at next row room (H .on) N next-below same gone after A
-
-      pub at-last : (last ≡ at → ⊥) → NextLive (isSet words') last len at
-      at-last h = next-last (isSet words) (isSet words') work len at next row room (H .on) N next-below same gone last B (omega (arith, B .most))
-
-      turned : (tree' : List ℕ) → Tree (len + 1) tree'
-          → NextKey file places area n row (live (isSet words') (set work at row) (len - suc at) (suc at)) at (getD tree' (len + 1 + at) 0)
-          → n * 4096 ≤ getD tree' (len + 1 + next) 0
-          → (last < at → NextKey file places area n (getD work last 0) (live (isSet words') (set work at row) (len - suc last) (suc last)) last (getD tree' (len + 1 + last) 0))
-          → ((i : ℕ) → (i ≡ at → ⊥) → (i ≡ next → ⊥) → (last < at → i ≡ last → ⊥) → getD tree' (len + 1 + i) 0 ≡ getD tree (len + 1 + i) 0)
-          → Turned file places area n len words work at row words' (set work at row) tree'
-      turned tree' T a b c d = record {
-        keyed = record {
-          few = K .few;
-          room = omega (arith, K .room, length-set work at row);
-          codes = codes';
-          nodes = T;
-          keys = keys-after (isSet words) (isSet words') work len at next row room (H .on) N next-below same gone
-              file places area n (λ i. getD tree (len + 1 + i) 0) (λ i. getD tree' (len + 1 + i) 0) (K .keys) last B a b c d;
-        };
-        work-length = length-set work at row;
-        beyond = drop-set-lt len work at row at-below;
-        is =
-            let x : len - 0 ≡ len = omega arith in
-            let y : at - 0 ≡ at = omega arith in
-            (rw (x, y) at (joined (isSet words) (isSet words') work len at next row room (H .on) N next-below same gone 0 (omega arith)))
-            ∙ ap (λ (s : List ℕ). live (isSet words) work at 0 ++ row ∷ drop 1 s) (sym (next-some (isSet words) work len at next N next-below));
+    module _ (row : ℕ) (J : JoinIs file places lefts rights area n n n (getD work at 0) (getD work next 0) row) where
+      pub push-ready : PushReady keys heads pool count at row
+      push-ready = record {
+        queues = R .queues;
+        keys-room = R .keys-room;
+        room = R .room;
+        place-below = omega (arith, R .at-below, R .codes-ready .few);
+        row-below = λ s. ⊎-elim (λ e. absurd (s e)) (λ l. omega (arith, R .tables .rows-ready .places-ready .placed .few)) (J .bound);
       }
 
-      few : n ≤ 4096
-      few = R .places-ready .placed .few
+      pub renewed-more : (keys' heads' pool' : List ℕ) (r : ℕ) → Pushed keys heads pool count at row keys' heads' pool' r
+          → Renewed file places lefts rights area n len work keys heads pool count at next keys' heads' pool' r
+      renewed-more keys' heads' pool' r P =
+          renewed row keys' heads' pool' r P (λ e. absurd (h e)) (λ l. join-key file places lefts rights area n (getD work at 0) (getD work next 0) row (join-ready .left-below) (join-ready .right-below) J)
 
-      module _ (tree2 : List ℕ) (Q : Renewed file places area n len (set work at row) (isSet words') tree1 at tree2) where
-        next-key : n * 4096 ≤ getD tree2 (len + 1 + next) 0
-        next-key = rw (Q .others next (λ z. omega (arith, N .after)), P .here) (omega (arith, few))
+module _ (keys : List ℕ) (last at row : ℕ) where
+  pub later-none : at ≤ last → Later keys last at row false
+  later-none h = record { yes = λ e. absurd (true-false (sym e)); no = λ e l z. omega arith }
 
-        at-key : NextKey file places area n row (live (isSet words') (set work at row) (len - suc at) (suc at)) at (getD tree2 (len + 1 + at) 0)
-        at-key = rw (getD-set-same work at row 0 room) at (Q .here)
-
-        pub turned-first : last ≡ at → Turned file places area n len words work at row words' (set work at row) tree2
-        turned-first e = turned tree2 (Q .nodes) at-key next-key (λ l. absurd (omega arith)) (λ i a b c. Q .others i a ∙ P .others i b)
-
-        pub turned-last : (tree3 : List ℕ) → (last ≡ at → ⊥) → Renewed file places area n len (set work at row) (isSet words') tree2 last tree3
-            → Turned file places area n len words work at row words' (set work at row) tree3
-        turned-last tree3 h S =
-            let l : last < at = omega (arith, B .most) in
-            turned tree3 (S .nodes)
-            (rw (S .others at (λ z. omega arith)) at-key)
-            (rw (S .others next (λ z. omega (arith, N .after))) next-key)
-            (λ _. rw (getD-set-other work at last row 0 (λ z. omega arith)) at (S .here))
-            (λ i a b c. S .others i (c l) ∙ Q .others i a ∙ P .others i b)
+  pub later-test : last < at → Later keys last at row (eqb (getD keys last 0) row)
+  later-test h = record {
+    yes = λ e. (h, eqb-true (getD keys last 0) row e);
+    no = λ e l z. true-false (sym (eqb-eq (getD keys last 0) row z) ∙ e);
+  }

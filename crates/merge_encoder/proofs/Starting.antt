@@ -1,22 +1,18 @@
--- The codes of a text's bytes, each byte's found once, and their keys. Assumes nothing.
+-- The codes of a text's bytes, each byte's found once. Assumes nothing.
 use mathlib.Core.Path.{_≡_, refl, sym, _∙_}
 use mathlib.Core.Logic.{_⊎_, inl, inr, ⊎-elim}
 use mathlib.Core.List.{List, _++_, append-nil}
-use Prim.Native.Nat.{ℕ, suc, _+_, _-_, _*_, _≤_, _<_}
+use Prim.Native.Nat.{ℕ, _+_, _≤_, _<_}
 use native.Mathlib.Decide.{ℕ-discrete}
 use native.Mathlib.Numerals.{add-one}
 use native.Mathlib.Omega.{arith}
 use lib.ListN.{length, length-set, length-replicate, getD-replicate, replicate, getD, take, drop, set}
 use lib.Seq.{append-snoc, getD-set-same, getD-set-other, take-suc-set, drop-set-lt, drop-cons, drop-length}
-use Rattle.bitfield.specs.Bits.{allSet}
-use Rattle.bitfield.proofs.Sets.{all-below}
 use Rattle.placed_rows.specs.Rows.{none}
 use Rattle.theory.specs.Merge.{byteCodes}
 use Rattle.theory.proofs.Lists.{lt-or-ge}
 use Rattle.merge_encoder.specs.Encoding.{WhenBuilt, Codes}
-use Rattle.merge_encoder.specs.Live.{live}
-use Rattle.merge_encoder.specs.Steps.{ByteCode, KnownBytes, KnownCode, ByteCodes, JoinKey, NextKey, KeysReady, FirstKeys}
-use Rattle.merge_encoder.proofs.Living.{live-set}
+use Rattle.merge_encoder.specs.Steps.{ByteCode, KnownBytes, KnownCode, ByteCodes}
 
 module _ (file places area : List ℕ) (n : ℕ) where
   pub known-start : KnownBytes file places area n (replicate 256 none)
@@ -39,7 +35,7 @@ pub record Filling (file places area : List ℕ) (n : ℕ) (text work : List ℕ
   pub codes : Codes i now n
   pub work-length : length now ≡ length work
   pub beyond : drop (length text) now ≡ drop (length text) work
-  pub built : WhenBuilt file places area n (λ D. take i now ++ byteCodes D (drop i text) ≡ byteCodes D text)
+  pub built : (lefts rights : List ℕ) → WhenBuilt file places lefts rights area n (λ D. take i now ++ byteCodes D (drop i text) ≡ byteCodes D text)
 
 module _ (file places area : List ℕ) (n : ℕ) (text work : List ℕ) (room : length text ≤ length work) where
   pub fill-start : Filling file places area n text work 0 work
@@ -72,49 +68,3 @@ module _ (file places area : List ℕ) (n : ℕ) (text work : List ℕ) (room : 
           beyond = G .beyond;
           built = λ lefts rights prefixes B. sym (append-nil (take (length text) now)) ∙ (rw drop-length at (G .built lefts rights prefixes B));
         }
-
--- the keys of the places before next - 1 are found; the others have no row's
-pub record Keying (file places area : List ℕ) (n len : ℕ) (work tree : List ℕ) (next : ℕ) : Type 0 where
-  pub ready : KeysReady n len work tree
-  pub low : 0 < next
-  pub high : next ≤ len - 1 + 1
-  pub found : (i : ℕ) → suc i < next → JoinKey file places area n (getD work i 0) (getD work (suc i) 0) i (getD tree (len + 1 + i) 0)
-  pub rest : (i : ℕ) → i ≤ len → next ≤ suc i → n * 4096 ≤ getD tree (len + 1 + i) 0
-
-module _ (file places area : List ℕ) (n len : ℕ) (work : List ℕ) where
-  pub keying-start : (tree : List ℕ) → KeysReady n len work tree → ((i : ℕ) → i ≤ len → n * 4096 ≤ getD tree (len + 1 + i) 0) → Keying file places area n len work tree 1
-  keying-start tree R f = record { ready = R; low = omega arith; high = omega arith; found = λ i h. absurd (omega arith); rest = λ i h l. f i h }
-
-  module _ (tree : List ℕ) (next : ℕ) (K : Keying file places area n len work tree next) where
-    pub keying-more : (v : ℕ) → next < len → JoinKey file places area n (getD work (next - 1) 0) (getD work next 0) (next - 1) v → Keying file places area n len work (set tree (len + next) v) (next + 1)
-    keying-more v l J =
-        let R = K .ready in
-        record {
-          ready = record {
-            few = R .few;
-            room = R .room;
-            codes = R .codes;
-            fits = record { some = R .fits .some; few = R .fits .few; room = length-set tree (len + next) v ∙ R .fits .room };
-          };
-          low = omega arith;
-          high = omega arith;
-          found = λ i h. ⊎-elim
-              (λ m. rw (getD-set-other tree (len + next) (len + 1 + i) v 0 (λ z. omega arith)) (K .found i m))
-              (λ m. let e : next ≡ suc i = omega arith in
-              let a : len + suc i ≡ len + 1 + i = omega arith in
-              let b : suc i - 1 ≡ i = omega arith in
-              rw (e, a, getD-set-same tree (len + 1 + i) v 0 (omega (arith, R .fits .room, R .few))) (rw (e, b) at J))
-              (lt-or-ge (suc i) next);
-          rest = λ i h m. rw (getD-set-other tree (len + next) (len + 1 + i) v 0 (λ z. omega arith)) (K .rest i h (omega arith));
-        }
-
-    pub keying-end : len ≤ next → FirstKeys file places area n len work tree
-    keying-end l = record { ready = K .ready; keys = λ i h. ⊎-elim (λ m. here i m) (λ m. end i h m) (lt-or-ge (suc i) len) }
-      where
-        here : (i : ℕ) → suc i < len → NextKey file places area n (getD work i 0) (live allSet work (len - suc i) (suc i)) i (getD tree (len + 1 + i) 0)
-        here i m =
-            let e : len - suc i ≡ suc (len - suc (suc i)) = omega arith in
-            rw (e, live-set allSet work (len - suc (suc i)) (suc i) (all-below (suc i) (omega (arith, K .ready .few)))) (K .found i (omega arith))
-
-        end : (i : ℕ) → i ≤ len → len ≤ suc i → NextKey file places area n (getD work i 0) (live allSet work (len - suc i) (suc i)) i (getD tree (len + 1 + i) 0)
-        end i h m = let e : len - suc i ≡ 0 = omega arith in rw e (K .rest i h (omega (arith, K .high)))

@@ -1,13 +1,14 @@
 -- Two codes at live places made one: which places are live, which codes they have, and their keys. Assumes nothing.
 use mathlib.Core.Path.{_≡_, refl, sym, ap, subst, _∙_}
-use mathlib.Core.Logic.{_⊎_, ⊎-elim}
+use mathlib.Core.Logic.{⊎-elim}
 use mathlib.Core.List.{List, [], _∷_, _++_}
 use mathlib.Core.Bool.{Bool, true, false}
-use Prim.Native.Nat.{ℕ, zero, suc, _+_, _-_, _*_, _≤_, _<_}
+use Prim.Native.Nat.{ℕ, zero, suc, _+_, _-_, _≤_, _<_}
 use native.Mathlib.Decide.{ℕ-discrete}
 use native.Mathlib.Omega.{arith}
 use lib.ListN.{length, getD, set}
 use lib.Seq.{getD-set-same, getD-set-other}
+use Rattle.placed_rows.specs.Rows.{none}
 use Rattle.theory.proofs.Lists.{lt-or-ge, true-false}
 use Rattle.merge_encoder.specs.Live.{kept, live, NextLive, LastLive}
 use Rattle.merge_encoder.specs.Steps.{NextKey, KeyIs}
@@ -116,23 +117,23 @@ module _ (bits bits' : ℕ → Bool) (work : List ℕ) (len at next row : ℕ) (
     here = λ _. on';
   }
 
-  module _ (file places area : List ℕ) (n : ℕ) (key key' : ℕ → ℕ)
-      (keys : (i : ℕ) → i ≤ len → KeyIs file places area n (bits i) (getD work i 0) (live bits work (len - suc i) (suc i)) i (key i))
+  module _ (Key : ℕ → ℕ → ℕ → Type 0) (few : len ≤ 4096) (key key' : ℕ → ℕ)
+      (keys : (i : ℕ) → i < 4096 → KeyIs Key (bits i) (getD work i 0) (live bits work (len - suc i) (suc i)) (key i))
       (last : ℕ) (L : LastLive bits at last)
-      (here' : NextKey file places area n row (live bits' (set work at row) (len - suc at) (suc at)) at (key' at))
-      (gone' : n * 4096 ≤ key' next)
-      (last' : last < at → NextKey file places area n (getD work last 0) (live bits' (set work at row) (len - suc last) (suc last)) last (key' last))
+      (here' : NextKey Key row (live bits' (set work at row) (len - suc at) (suc at)) (key' at))
+      (gone' : key' next ≡ none)
+      (last' : last < at → NextKey Key (getD work last 0) (live bits' (set work at row) (len - suc last) (suc last)) (key' last))
       (others' : (i : ℕ) → (i ≡ at → ⊥) → (i ≡ next → ⊥) → (last < at → i ≡ last → ⊥) → key' i ≡ key i) where
-    abbrev Key : ℕ → Type 0
-    Key i = KeyIs file places area n (bits' i) (getD work' i 0) (live bits' work' (len - suc i) (suc i)) i (key' i)
+    abbrev Right : ℕ → Type 0
+    Right i = KeyIs Key (bits' i) (getD work' i 0) (live bits' work' (len - suc i) (suc i)) (key' i)
 
     -- the key of a place that is not live
-    dead : (i : ℕ) → i ≤ len → bits i ≡ false → (i ≡ at → ⊥) → (i ≡ next → ⊥) → (last < at → i ≡ last → ⊥) → Key i
+    dead : (i : ℕ) → i < 4096 → bits i ≡ false → (i ≡ at → ⊥) → (i ≡ next → ⊥) → (last < at → i ≡ last → ⊥) → Right i
     dead i h e a b c =
         rw (same i b, e, others' i a b c)
-        (subst (λ (x : Bool). KeyIs file places area n x (getD work i 0) (live bits work (len - suc i) (suc i)) i (key i)) e (keys i h))
+        (subst (λ (x : Bool). KeyIs Key x (getD work i 0) (live bits work (len - suc i) (suc i)) (key i)) e (keys i h))
 
-    behind : (i : ℕ) → i ≤ len → next < i → Key i
+    behind : (i : ℕ) → i < 4096 → next < i → Right i
     behind i h l =
         rw (
           same i (λ z. omega arith),
@@ -143,10 +144,10 @@ module _ (bits bits' : ℕ → Bool) (work : List ℕ) (len at next row : ℕ) (
         (keys i h)
 
     -- the key of a live place before the last one
-    first-same : (i : ℕ) → i < last → last < at → bits i ≡ true → Some bits work len (live bits work (at - suc i) (suc i)) → Key i
+    first-same : (i : ℕ) → i < last → last < at → bits i ≡ true → Some bits work len (live bits work (at - suc i) (suc i)) → Right i
     first-same i h l e s =
         let a = parted bits work len at (suc i) (omega arith) (omega (arith, N .after)) on in
-        let k = subst (λ (x : Bool). KeyIs file places area n x (getD work i 0) (live bits work (len - suc i) (suc i)) i (key i)) e (keys i (omega (arith, N .after))) in
+        let k = subst (λ (x : Bool). KeyIs Key x (getD work i 0) (live bits work (len - suc i) (suc i)) (key i)) e (keys i (omega (arith, N .after, few))) in
         let k' = rw (a, s .is) at k in
         rw (
           same i (λ z. omega (arith, N .after)),
@@ -158,26 +159,26 @@ module _ (bits bits' : ℕ → Bool) (work : List ℕ) (len at next row : ℕ) (
         )
         k'
 
-    ahead : (i : ℕ) → i < at → (b : Bool) → bits i ≡ b → Key i
+    ahead : (i : ℕ) → i < at → (b : Bool) → bits i ≡ b → Right i
     ahead i h false e = dead' (ℕ-discrete i last)
       where
-        dead' : Dec (i ≡ last) → Key i
+        dead' : Dec (i ≡ last) → Right i
         dead' (yes z) = absurd (true-false (sym (L .here (omega arith)) ∙ ap bits (sym z) ∙ e))
-        dead' (no z) = dead i (omega (arith, N .after)) e (λ w. omega arith) (λ w. omega (arith, N .after)) (λ _ w. z w)
+        dead' (no z) = dead i (omega (arith, N .after, few)) e (λ w. omega arith) (λ w. omega (arith, N .after)) (λ _ w. z w)
     ahead i h true e = ⊎-elim
         (λ l. ⊎-elim
         (λ m. first-same i m l e (live-some bits work len (at - suc i) (suc i) last m (omega arith) (L .here l)))
         (λ m. ⊎-elim
         (λ z. absurd (true-false (sym e ∙ L .clear i h (λ _. z))))
         (λ z. let w : i ≡ last = omega arith in
-        rw (same i (λ v. omega (arith, N .after)), e, unchanged i (λ v. omega arith)) (subst (λ (j : ℕ). NextKey file places area n (getD work j 0) (live bits' work' (len - suc j) (suc j)) j (key' j)) (sym w) (last' l)))
+        rw (same i (λ v. omega (arith, N .after)), e, unchanged i (λ v. omega arith)) (subst (λ (j : ℕ). NextKey Key (getD work j 0) (live bits' work' (len - suc j) (suc j)) (key' j)) (sym w) (last' l)))
         (lt-or-ge last i))
         (lt-or-ge i last))
         (λ l. absurd (true-false (sym e ∙ L .clear i h (λ z. absurd (omega arith)))))
         (lt-or-ge last at)
 
     -- each key is right after the turn
-    pub keys-after : (i : ℕ) → i ≤ len → KeyIs file places area n (bits' i) (getD (set work at row) i 0) (live bits' (set work at row) (len - suc i) (suc i)) i (key' i)
+    pub keys-after : (i : ℕ) → i < 4096 → KeyIs Key (bits' i) (getD (set work at row) i 0) (live bits' (set work at row) (len - suc i) (suc i)) (key' i)
     keys-after i h = ⊎-elim
         (λ l. ahead i l (bits i) refl)
         (λ l. ⊎-elim

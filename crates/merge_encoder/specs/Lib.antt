@@ -1,4 +1,4 @@
 pub mod Encoding
-pub mod Tree
 pub mod Live
+pub mod Queues
 pub mod Steps

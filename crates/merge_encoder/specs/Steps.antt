@@ -3,20 +3,21 @@ use mathlib.Core.Path.{_≡_}
 use mathlib.Core.Logic.{_⊎_}
 use mathlib.Core.List.{List, [], _∷_, _++_}
 use mathlib.Core.Bool.{Bool, true, false}
-use Prim.Native.Nat.{ℕ, suc, _+_, _-_, _*_, _/_, _%_, _≤_, _<_, min}
+use Prim.Native.Nat.{ℕ, zero, suc, _+_, _-_, _*_, _≤_, _<_}
 use lib.ListN.{length, getD, take, drop}
-use Rattle.bitfield.specs.Bits.{isSet, allSet}
+use Rattle.bitfield.specs.Bits.{isSet, allSet, without}
 use Rattle.placed_rows.specs.Rows.{none}
-use Rattle.theory.specs.Merge.{join, byteCodes, merge}
-use Rattle.search_area.specs.Answers.{Joined}
-use Rattle.merge_encoder.specs.Encoding.{RowsReady, WhenBuilt, Codes}
-use Rattle.merge_encoder.specs.Tree.{TreeRoom, Tree}
-use Rattle.merge_encoder.specs.Live.{live}
+use Rattle.theory.specs.Dictionary.{Dictionary}
+use Rattle.theory.specs.Merge.{byteCodes}
+use Rattle.theory.specs.Paper.{pass, listed}
+use Rattle.merge_encoder.specs.Encoding.{JoinsReady, WhenBuilt, Codes}
+use Rattle.merge_encoder.specs.Live.{live, NextLive, LastLive}
+use Rattle.merge_encoder.specs.Queues.{Queued, Queues, Longer}
 
 -- r is a row, and the row that is the byte b alone
 pub record ByteCode (file places area : List ℕ) (n b r : ℕ) : Type 0 where
   pub below : r < n
-  pub built : WhenBuilt file places area n (λ D. r ≡ D .code b)
+  pub built : (lefts rights : List ℕ) → WhenBuilt file places lefts rights area n (λ D. r ≡ D .code b)
 
 -- the rows of the bytes met so far, none for the others
 abbrev pub KnownBytes : List ℕ → List ℕ → List ℕ → ℕ → List ℕ → Type 0
@@ -31,86 +32,163 @@ pub record ByteCodes (file places area : List ℕ) (n : ℕ) (text work work' : 
   pub codes : Codes (length text) work' n
   pub work-length : length work' ≡ length work
   pub beyond : drop (length text) work' ≡ drop (length text) work
-  pub built : WhenBuilt file places area n (λ D. take (length text) work' ≡ byteCodes D text)
+  pub built : (lefts rights : List ℕ) → WhenBuilt file places lefts rights area n (λ D. take (length text) work' ≡ byteCodes D text)
 
--- the joins found so far: an entry is 4,096 x + y times 2^32, and what the search for the joined bytes of x and y answers
-pub record KnownJoins (file places area : List ℕ) (n : ℕ) (joins : List ℕ) : Type 0 where
-  pub room : length joins ≡ 1024
-  pub each : (i x y : ℕ) → i < 1024 → x < n → y < n → getD joins i 0 / 4294967296 ≡ x * 4096 + y → Joined file places n area x y (getD joins i 0 % 4294967296)
+-- k is the row of D that has x and y as its parts, or none where there is no such row
+pub record JoinOf (D : Dictionary) (n x y k : ℕ) : Type 0 where
+  pub is : (k ≡ none → ⊥) → listed D k x y ≡ true
+  pub only : (r : ℕ) → r < n → listed D r x y ≡ true → k ≡ r
 
--- rows and the search area may be read, and the joins found so far
-pub record Finding (file places area : List ℕ) (n : ℕ) (joins : List ℕ) : Type 0 where
-  pub rows-ready : RowsReady file places area n
-  pub known : KnownJoins file places area n joins
+-- k is the key of a code x where the next code is y
+pub record JoinKey (file places lefts rights area : List ℕ) (n x y k : ℕ) : Type 0 where
+  pub bound : (k ≡ none) ⊎ (k < n)
+  pub built : WhenBuilt file places lefts rights area n (λ D. JoinOf D n x y k)
 
--- an answer beside the joins found so far
-pub record Keeping (file places area : List ℕ) (n : ℕ) (joins : List ℕ) (P : Type 0) : Type 0 where
-  pub known : KnownJoins file places area n joins
-  pub is : P
+module _ (Key : ℕ → ℕ → ℕ → Type 0) where
+  -- k is the key of a live place whose code is x, the codes after it being S: none where there are none
+  abbrev pub NextKey : ℕ → List ℕ → ℕ → Type 0
+  NextKey x [] k = k ≡ none
+  NextKey x (y ∷ S) k = Key x y k
 
--- k is the key of a place whose code is x where the next code is y: the join times 4,096, and the place
-pub record JoinKey (file places area : List ℕ) (n x y place k : ℕ) : Type 0 where
-  pub at : k < n * 4096 → k % 4096 ≡ place
-  pub built : WhenBuilt file places area n (λ D. min (k / 4096) n ≡ join D x y)
+  -- k is the key of a place: none where the place is not live
+  abbrev pub KeyIs : Bool → ℕ → List ℕ → ℕ → Type 0
+  KeyIs true x S k = NextKey x S k
+  KeyIs false x S k = k ≡ none
 
-module _ (file places area : List ℕ) (n : ℕ) where
-  -- k is the key of a live place whose code is x, the codes after it being S: no row's where there are none
-  abbrev pub NextKey : ℕ → List ℕ → ℕ → ℕ → Type 0
-  NextKey x [] place k = n * 4096 ≤ k
-  NextKey x (y ∷ S) place k = JoinKey file places area n x y place k
-
-  -- k is the key of a place: no row's where the place is not live
-  abbrev pub KeyIs : Bool → ℕ → List ℕ → ℕ → ℕ → Type 0
-  KeyIs true x S place k = NextKey x S place k
-  KeyIs false x S place k = n * 4096 ≤ k
-
--- codes may be read and their keys put into a tree
-pub record KeysReady (n len : ℕ) (work tree : List ℕ) : Type 0 where
+-- codes may be read
+pub record CodesReady (n len : ℕ) (work : List ℕ) : Type 0 where
   pub few : len ≤ 4096
   pub room : len ≤ length work
   pub codes : Codes len work n
-  pub fits : TreeRoom (len + 1) tree
+
+-- what a key found anew needs: a place, and the next live one or the end
+pub record RenewReady (file places lefts rights area : List ℕ) (n len : ℕ) (work keys heads pool : List ℕ) (count at next : ℕ) : Type 0 where
+  pub tables : JoinsReady file places lefts rights area n
+  pub codes-ready : CodesReady n len work
+  pub queues : Queues heads pool count
+  pub keys-room : length keys ≡ 4096
+  pub room : count < 12289
+  pub at-below : at < len
+  pub next-below : next ≤ len
+
+-- one key is found anew, and its place is in the queue of its row
+pub record Renewed (file places lefts rights area : List ℕ) (n len : ℕ) (work keys heads pool : List ℕ) (count at next : ℕ) (keys' heads' pool' : List ℕ) (r : ℕ) : Type 0 where
+  pub keys-room : length keys' ≡ 4096
+  pub last : next ≡ len → getD keys' at 0 ≡ none
+  pub here : next < len → JoinKey file places lefts rights area n (getD work at 0) (getD work next 0) (getD keys' at 0)
+  pub others : (i : ℕ) → (i ≡ at → ⊥) → getD keys' i 0 ≡ getD keys i 0
+  pub longer : Longer heads pool count heads' pool' r
+  pub few : r ≤ count + 1
+  pub fresh : (getD keys' at 0 ≡ none → ⊥) → Queued pool' (getD heads' (getD keys' at 0) 0) at
+
+-- the codes at the live places below len, and the keys of all places
+pub record Keyed (file places lefts rights area : List ℕ) (n len : ℕ) (words work keys : List ℕ) : Type 0 where
+  pub codes-ready : CodesReady n len work
+  pub keys-room : length keys ≡ 4096
+  pub key : (i : ℕ) → i < 4096
+      → KeyIs (JoinKey file places lefts rights area n) (isSet words i) (getD work i 0) (live (isSet words) work (len - suc i) (suc i)) (getD keys i 0)
+
+-- and the queues, with room for two entries at each join
+pub record State (file places lefts rights area : List ℕ) (n len : ℕ) (words work keys heads pool : List ℕ) (count : ℕ) : Type 0 where
+  pub keyed : Keyed file places lefts rights area n len words work keys
+  pub queues : Queues heads pool count
+  pub entries : count + 2 * length (live (isSet words) work len 0) ≤ 3 * len + 1
+
+-- no key is below row, and each place that has a row as its key is in the queue of that row
+pub record Waiting (keys heads pool : List ℕ) (row : ℕ) : Type 0 where
+  pub least : (i : ℕ) → i < 4096 → row ≤ getD keys i 0
+  pub queued : (i : ℕ) → i < 4096 → (getD keys i 0 ≡ none → ⊥) → Queued pool (getD heads (getD keys i 0) 0) i
 
 -- the keys of codes that are all live
-pub record FirstKeys (file places area : List ℕ) (n len : ℕ) (work tree' : List ℕ) : Type 0 where
-  pub ready : KeysReady n len work tree'
-  pub keys : (i : ℕ) → i ≤ len → NextKey file places area n (getD work i 0) (live allSet work (len - suc i) (suc i)) i (getD tree' (len + 1 + i) 0)
+pub record FirstKeys (file places lefts rights area : List ℕ) (n len : ℕ) (work keys heads pool : List ℕ) (count : ℕ) : Type 0 where
+  pub state : (words : List ℕ) → isSet words ≡ allSet → State file places lefts rights area n len words work keys heads pool count
+  pub waiting : Waiting keys heads pool 0
 
--- one key is found anew
-pub record Renewed (file places area : List ℕ) (n len : ℕ) (work : List ℕ) (bits : ℕ → Bool) (tree : List ℕ) (at : ℕ) (tree' : List ℕ) : Type 0 where
-  pub nodes : Tree (len + 1) tree'
-  pub here : NextKey file places area n (getD work at 0) (live bits work (len - suc at) (suc at)) at (getD tree' (len + 1 + at) 0)
-  pub others : (i : ℕ) → (i ≡ at → ⊥) → getD tree' (len + 1 + i) 0 ≡ getD tree (len + 1 + i) 0
+-- what the keys of codes need: empty queues and no keys
+pub record FillReady (file places lefts rights area : List ℕ) (n len : ℕ) (work keys heads pool : List ℕ) : Type 0 where
+  pub tables : JoinsReady file places lefts rights area n
+  pub codes-ready : CodesReady n len work
+  pub queues : Queues heads pool 1
+  pub keys-room : length keys ≡ 4096
+  pub no-keys : (i : ℕ) → i < 4096 → getD keys i 0 ≡ none
 
--- the codes at the live places below len, and a tree of their keys
-pub record Keyed (file places area : List ℕ) (n len : ℕ) (words work tree : List ℕ) : Type 0 where
-  pub few : len ≤ 4096
-  pub room : len ≤ length work
-  pub codes : Codes len work n
-  pub nodes : Tree (len + 1) tree
-  pub keys : (i : ℕ) → i ≤ len
-      → KeyIs file places area n (isSet words i) (getD work i 0) (live (isSet words) work (len - suc i) (suc i)) i (getD tree (len + 1 + i) 0)
+-- the live place before a place has another key than row, or there is none
+abbrev pub First : List ℕ → ℕ → ℕ → ℕ → Type 0
+First keys last at row = last < at → getD keys last 0 ≡ row → ⊥
 
--- the least key is that of the place at, whose join is a row
-pub record LeastAt (n : ℕ) (tree : List ℕ) (at row : ℕ) : Type 0 where
+-- whether the live place before a place has the key row
+pub record Later (keys : List ℕ) (last at row : ℕ) (b : Bool) : Type 0 where
+  pub yes : b ≡ true → (last < at) × (getD keys last 0 ≡ row)
+  pub no : b ≡ false → First keys last at row
+
+-- the place at has the key row and joins first; the live places around it
+pub record Around (bits : ℕ → Bool) (keys : List ℕ) (n len row last at next after : ℕ) : Type 0 where
   pub below : row < n
-  pub place : at < 4096
-  pub is : getD tree 1 0 ≡ row * 4096 + at
+  pub at-below : at < 4096
+  pub here : getD keys at 0 ≡ row
+  pub first : First keys last at row
+  pub last-is : LastLive bits at last
+  pub next-is : NextLive bits at len next
+  pub after-is : NextLive bits next len after
 
 -- the code at the place at and the one after it are made one
-pub record Turned (file places area : List ℕ) (n len : ℕ) (words work : List ℕ) (at row : ℕ) (words' work' tree' : List ℕ) : Type 0 where
-  pub keyed : Keyed file places area n len words' work' tree'
+pub record Turned (file places lefts rights area : List ℕ) (n len : ℕ) (words work keys heads pool : List ℕ) (count row last at next : ℕ) (words' work' keys' heads' pool' : List ℕ) (r : ℕ) : Type 0 where
+  pub state : State file places lefts rights area n len words' work' keys' heads' pool' r
   pub work-length : length work' ≡ length work
   pub beyond : drop len work' ≡ drop len work
-  pub is : live (isSet words') work' len 0 ≡ live (isSet words) work at 0 ++ row ∷ drop 1 (live (isSet words) work (len - suc at) (suc at))
+  pub less : suc (length (live (isSet words') work' len 0)) ≡ length (live (isSet words) work len 0)
+  pub longer : Longer heads pool count heads' pool' r
+  pub cleared : isSet words' ≡ without (isSet words) next
+  pub gone : getD keys' next 0 ≡ none
+  pub others : (i : ℕ) → (i ≡ at → ⊥) → (i ≡ next → ⊥) → (last < at → i ≡ last → ⊥) → getD keys' i 0 ≡ getD keys i 0
+  pub fresh-at : (getD keys' at 0 ≡ none → ⊥) → Queued pool' (getD heads' (getD keys' at 0) 0) at
+  pub fresh-last : last < at → (getD keys' last 0 ≡ none → ⊥) → Queued pool' (getD heads' (getD keys' last 0) 0) last
+  pub higher-at : WhenBuilt file places lefts rights area n (λ D. row < getD keys' at 0)
+  pub higher-last : last < at → WhenBuilt file places lefts rights area n (λ D. row < getD keys' last 0)
+  pub same : WhenBuilt file places lefts rights area n (λ D. pass row (listed D row) (live (isSet words') work' len 0) ≡ pass row (listed D row) (live (isSet words) work len 0))
 
--- the codes at the live places are what the merge procedure makes of those that were there before, the numbers from len on as before
-pub record Merged (file places area : List ℕ) (n len : ℕ) (words work words' work' : List ℕ) : Type 0 where
+-- the live place before a place has the key row
+pub record Behind (bits : ℕ → Bool) (keys : List ℕ) (row i : ℕ) : Type 0 where
+  pub place : ℕ
+  pub before : place < i
+  pub clear : (p : ℕ) → place < p → p < i → bits p ≡ false
+  pub key : getD keys place 0 ≡ row
+
+-- while the joins to row are made: no key is below row, places with a higher one are queued, and a place with the key row is the place at,
+-- or in the queue from an entry on, or the live place before it has the key row too
+pub record During (bits : ℕ → Bool) (keys heads pool : List ℕ) (row entry at : ℕ) : Type 0 where
+  pub least : (i : ℕ) → i < 4096 → row ≤ getD keys i 0
+  pub queued : (i : ℕ) → i < 4096 → row < getD keys i 0 → (getD keys i 0 ≡ none → ⊥) → Queued pool (getD heads (getD keys i 0) 0) i
+  pub due : (i : ℕ) → i < 4096 → getD keys i 0 ≡ row → (i ≡ at) ⊎ (Queued pool entry i ⊎ Behind bits keys row i)
+
+-- joins to row were made from the place at on, where there are some. 4,096 is no place
+pub record Ran (file places lefts rights area : List ℕ) (n len : ℕ) (words work keys heads pool : List ℕ) (count row at : ℕ) (words' work' keys' heads' pool' : List ℕ) (r : ℕ) : Type 0 where
+  pub state : State file places lefts rights area n len words' work' keys' heads' pool' r
+  pub work-length : length work' ≡ length work
+  pub beyond : drop len work' ≡ drop len work
+  pub least : count ≤ r
+  pub during : WhenBuilt file places lefts rights area n (λ D. (entry : ℕ) → entry < count → During (isSet words) keys heads pool row entry at → During (isSet words') keys' heads' pool' row entry 4096)
+  pub same : WhenBuilt file places lefts rights area n (λ D. pass row (listed D row) (live (isSet words') work' len 0) ≡ pass row (listed D row) (live (isSet words) work len 0))
+
+-- all joins to row were made
+pub record RowJoined (file places lefts rights area : List ℕ) (n len : ℕ) (words work keys heads pool : List ℕ) (row : ℕ) (words' work' keys' heads' pool' : List ℕ) (r : ℕ) : Type 0 where
+  pub state : State file places lefts rights area n len words' work' keys' heads' pool' r
+  pub work-length : length work' ≡ length work
+  pub beyond : drop len work' ≡ drop len work
+  pub waiting : WhenBuilt file places lefts rights area n (λ D. Waiting keys heads pool row → Waiting keys' heads' pool' (suc row))
+  pub is : WhenBuilt file places lefts rights area n (λ D. Waiting keys heads pool row → live (isSet words') work' len 0 ≡ pass row (listed D row) (live (isSet words) work len 0))
+
+-- the codes after the passes of the rows below p
+abbrev pub passedBelow : Dictionary → ℕ → List ℕ → List ℕ
+passedBelow D zero S = S
+passedBelow D (suc p) S = pass p (listed D p) (passedBelow D p S)
+
+-- the codes at the live places are what the passes of all rows make of those that were there before, the numbers from len on as before
+pub record Merged (file places lefts rights area : List ℕ) (n len : ℕ) (words work words' work' : List ℕ) : Type 0 where
   pub codes : Codes len work' n
   pub work-length : length work' ≡ length work
   pub beyond : drop len work' ≡ drop len work
-  pub built : WhenBuilt file places area n (λ D.
-      live (isSet words') work' len 0 ≡ merge D (length (live (isSet words) work len 0)) (live (isSet words) work len 0))
+  pub built : WhenBuilt file places lefts rights area n (λ D. live (isSet words') work' len 0 ≡ passedBelow D n (live (isSet words) work len 0))
 
 -- the codes at the live places stand at the front of a buffer, the rest is as before
 pub record Gathered (words work : List ℕ) (len : ℕ) (out out' : List ℕ) (r : ℕ) : Type 0 where

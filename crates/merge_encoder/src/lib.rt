@@ -1,16 +1,15 @@
-// The merge procedure over tables: each byte alone at first, then the lowest join, the leftmost of equal ones, until no neighbours join.
-// A code stands in `work` at the place where its bytes begin. The live places are the set bits of 65 words. The key of a live place is the
-// join of its code and the next one times 4,096, and the place. The least key is the lowest join, the leftmost of equal ones.
-// It stands at the top of a tree of keys. Rows of bytes and joins that were found are kept for the rest of the text.
+// The merge procedure over tables: each byte alone at first, then for each row, in their order, the neighbours that are the row's parts are
+// joined, from left to right. A code stands in `work` at the place where its bytes begin. The live places are the set bits of 65 words. The key
+// of a live place is the row that has its code and the next one as its parts, or NONE. Each row has a queue of the places whose key it is or was:
+// `heads` has the newest entry of each queue, and an entry of `pool` is the next older entry times 4,096, and a place. Entry 0 ends a queue.
 ghost use mathlib.Core.Path.{_≡_};
-ghost use Prim.Native.Nat.{ℕ, _+_, _*_, _≤_, _<_, min};
+ghost use Prim.Native.Nat.{_≤_, _<_};
 ghost use lib.ListN.{length, getD};
 ghost use Rattle.bitfield.specs.Bits.{isSet};
-ghost use Rattle.search_area.specs.Answers.{Joined};
-ghost use Rattle.merge_encoder.specs.Encoding.{RowsReady, EncodeReady, Encoded};
-ghost use Rattle.merge_encoder.specs.Tree.{TreeRoom, Tree, TreePut, Grown};
-ghost use Rattle.merge_encoder.specs.Live.{live, NextLive, LastLive};
-ghost use Rattle.merge_encoder.specs.Steps.{ByteCode, KnownBytes, KnownCode, ByteCodes, JoinKey, KeysReady, Finding, Keeping, FirstKeys, Renewed, Keyed, LeastAt, Turned, Merged, Gathered};
+ghost use Rattle.merge_encoder.specs.Encoding.{RowsReady, JoinsReady, EncodeReady, Encoded};
+ghost use Rattle.merge_encoder.specs.Live.{NextLive, LastLive};
+ghost use Rattle.merge_encoder.specs.Queues.{PushReady, Pushed};
+ghost use Rattle.merge_encoder.specs.Steps.{ByteCode, KnownBytes, KnownCode, ByteCodes, RenewReady, Renewed, FillReady, FirstKeys, State, Waiting, Later, Around, Turned, Ran, RowJoined, Merged, Gathered};
 use bitfield::Bit;
 use bitfield::all_set;
 use bitfield::bit_is_set;
@@ -19,47 +18,6 @@ use bitfield::last_set_bit;
 use bitfield::next_set_bit;
 use placed_rows::NONE;
 use placed_rows::wide;
-
-// The lesser of two keys.
-fn lesser(a: u32, b: u32) -> u32
-    ensures { λ r. ⌜ r ≡ min a b ⌝ }
-{
-    if a < b { a } else { b }
-}
-
-// A key is put at its place, and the nodes above it follow.
-fn put(tree: &mut [u32; 8194], size: usize, place: usize, key: u32)
-    requires { ⌜ Tree size (now tree) ⌝ }
-    requires { ⌜ place < size ⌝ }
-    ensures { λ r. ⌜ TreePut size (now (tree .entry)) place key (now (tree .exit)) ⌝ }
-{
-    let mut at = size + place;
-    let mut least = key;
-    tree[at] = key;
-    while at > 1 {
-        let other = at + 1 - at % 2 * 2;
-        least = lesser(least, tree[other]);
-        at /= 2;
-        if tree[at] == least {
-            return;
-        }
-        tree[at] = least;
-    }
-}
-
-// The nodes above the keys, from the last to the first.
-fn grow(tree: &mut [u32; 8194], size: usize)
-    requires { ⌜ TreeRoom size (now tree) ⌝ }
-    ensures { λ r. ⌜ Grown size (now (tree .entry)) (now (tree .exit)) ⌝ }
-{
-    let mut at = size;
-    while at > 1 {
-        at -= 1;
-        let left = at * 2;
-        let right = left + 1;
-        tree[at] = lesser(tree[left], tree[right]);
-    }
-}
 
 // The row of the byte at a place of the text, or row 0 where the search area finds none.
 fn byte_code(file: &[u8], places: &[u32], area: &[u32], n: usize, text: &[u8], at: usize) -> u32
@@ -120,55 +78,6 @@ fn fill_byte_codes(
     }
 }
 
-// The row with the bytes of two codes joined, or NONE, from the joins that were found before, or found and kept there.
-fn known_join(
-    file: &[u8],
-    places: &[u32],
-    area: &[u32],
-    n: usize,
-    joins: &mut [usize; 1024],
-    x: u32,
-    y: u32,
-) -> u32
-    requires { ⌜ Finding (now file) (now places) (now area) n (now joins) ⌝ }
-    requires { ⌜ (x < n) × (y < n) ⌝ }
-    ensures { λ r. ⌜ Keeping (now (file .entry)) (now (places .entry)) (now (area .entry)) n (now (joins .exit)) (Joined (now (file .entry)) (now (places .entry)) n (now (area .entry)) x y r) ⌝ }
-{
-    let left = wide(x);
-    let right = wide(y);
-    let pair = left * 4096 + right;
-    let slot = (left * 40503 + right) % 1024;
-    let met = joins[slot];
-    if met / 4294967296 == pair {
-        return (met % 4294967296) as u32;
-    }
-    let row = search_area::join(file, places, n, area, x, y);
-    joins[slot] = pair * 4294967296 + wide(row);
-    row
-}
-
-// The key of a place: the join of two codes, or the count of rows, times 4,096, and the place.
-fn join_key(
-    file: &[u8],
-    places: &[u32],
-    area: &[u32],
-    n: usize,
-    joins: &mut [usize; 1024],
-    x: u32,
-    y: u32,
-    place: usize,
-) -> u32
-    requires { ⌜ Finding (now file) (now places) (now area) n (now joins) ⌝ }
-    requires { ⌜ (x < n) × ((y < n) × (place < 4096)) ⌝ }
-    ensures { λ r. ⌜ Keeping (now (file .entry)) (now (places .entry)) (now (area .entry)) n (now (joins .exit)) (JoinKey (now (file .entry)) (now (places .entry)) (now (area .entry)) n x y place r) ⌝ }
-{
-    let row = known_join(file, places, area, n, joins, x, y);
-    if row == NONE {
-        return NONE;
-    }
-    row * 4096 + place as u32
-}
-
 // The live place after a place, or the end.
 fn next_live(words: &[u64; 65], at: usize, end: usize) -> usize
     requires { ⌜ (at < end) × (end ≤ 4096) ⌝ }
@@ -197,147 +106,331 @@ fn last_live(words: &[u64; 65], at: usize) -> usize
     at
 }
 
+// A row, or NONE, is made the key of a place, and the place is put at the front of the row's queue. The count of entries is answered.
+fn push(
+    keys: &mut [u32; 4096],
+    heads: &mut [u32; 4096],
+    pool: &mut [u32; 12289],
+    count: usize,
+    place: usize,
+    row: u32,
+) -> usize
+    requires { ⌜ PushReady (now keys) (now heads) (now pool) count place row ⌝ }
+    ensures { λ r. ⌜ Pushed (now (keys .entry)) (now (heads .entry)) (now (pool .entry)) count place row (now (keys .exit)) (now (heads .exit)) (now (pool .exit)) r ⌝ }
+{
+    keys[place] = row;
+    if row == NONE {
+        return count;
+    }
+    let queue = wide(row);
+    pool[count] = heads[queue] * 4096 + place as u32;
+    heads[queue] = count as u32;
+    count + 1
+}
+
 // The key of a place is found anew, the next live place being given.
 fn renew(
     file: &[u8],
     places: &[u32],
+    lefts: &[u32],
+    rights: &[u32],
     area: &[u32],
     n: usize,
-    joins: &mut [usize; 1024],
-    words: &[u64; 65],
     work: &[u32],
     len: usize,
-    tree: &mut [u32; 8194],
+    keys: &mut [u32; 4096],
+    heads: &mut [u32; 4096],
+    pool: &mut [u32; 12289],
+    count: usize,
     at: usize,
     next: usize,
-)
-    requires { ⌜ Finding (now file) (now places) (now area) n (now joins) × KeysReady n len (now work) (now tree) ⌝ }
-    requires { ⌜ Tree (len + 1) (now tree) × NextLive (isSet (now words)) at len next ⌝ }
-    ensures { λ r. ⌜ Keeping (now (file .entry)) (now (places .entry)) (now (area .entry)) n (now (joins .exit)) (Renewed (now (file .entry)) (now (places .entry)) (now (area .entry)) n len (now (work .entry)) (isSet (now (words .entry))) (now (tree .entry)) at (now (tree .exit))) ⌝ }
+) -> usize
+    requires { ⌜ RenewReady (now file) (now places) (now lefts) (now rights) (now area) n len (now work) (now keys) (now heads) (now pool) count at next ⌝ }
+    ensures { λ r. ⌜ Renewed (now (file .entry)) (now (places .entry)) (now (lefts .entry)) (now (rights .entry)) (now (area .entry)) n len (now (work .entry)) (now (keys .entry)) (now (heads .entry)) (now (pool .entry)) count at next (now (keys .exit)) (now (heads .exit)) (now (pool .exit)) r ⌝ }
 {
     if next == len {
-        put(tree, len + 1, at, NONE);
-        return;
+        return push(keys, heads, pool, count, at, NONE);
     }
-    let key = join_key(file, places, area, n, joins, work[at], work[next], at);
-    put(tree, len + 1, at, key);
+    let limit = n as u32;
+    let row = token_pair::join_before(
+        file,
+        places,
+        lefts,
+        rights,
+        area,
+        n,
+        limit,
+        limit,
+        work[at],
+        work[next],
+    );
+    push(keys, heads, pool, count, at, row)
 }
 
-// The keys of the codes of a text's bytes, which are all live. A tree of none is given.
+// The keys of the codes of a text's bytes, which are all live. No keys and empty queues are given.
 fn fill_keys(
     file: &[u8],
     places: &[u32],
+    lefts: &[u32],
+    rights: &[u32],
     area: &[u32],
     n: usize,
-    joins: &mut [usize; 1024],
     work: &[u32],
     len: usize,
-    tree: &mut [u32; 8194],
-)
-    requires { ⌜ Finding (now file) (now places) (now area) n (now joins) × KeysReady n len (now work) (now tree) ⌝ }
-    requires { ⌜ ((i : ℕ) → i ≤ len → n * 4096 ≤ getD (now tree) (len + 1 + i) 0) ⌝ }
-    ensures { λ r. ⌜ Keeping (now (file .entry)) (now (places .entry)) (now (area .entry)) n (now (joins .exit)) (FirstKeys (now (file .entry)) (now (places .entry)) (now (area .entry)) n len (now (work .entry)) (now (tree .exit))) ⌝ }
+    keys: &mut [u32; 4096],
+    heads: &mut [u32; 4096],
+    pool: &mut [u32; 12289],
+) -> usize
+    requires { ⌜ FillReady (now file) (now places) (now lefts) (now rights) (now area) n len (now work) (now keys) (now heads) (now pool) ⌝ }
+    ensures { λ r. ⌜ FirstKeys (now (file .entry)) (now (places .entry)) (now (lefts .entry)) (now (rights .entry)) (now (area .entry)) n len (now (work .entry)) (now (keys .exit)) (now (heads .exit)) (now (pool .exit)) r ⌝ }
 {
+    let mut count = 1;
     let mut next = 1;
     while next < len {
-        let at = next - 1;
-        let leaf = len + next;
-        tree[leaf] = join_key(file, places, area, n, joins, work[at], work[next], at);
+        count = renew(
+            file,
+            places,
+            lefts,
+            rights,
+            area,
+            n,
+            work,
+            len,
+            keys,
+            heads,
+            pool,
+            count,
+            next - 1,
+            next,
+        );
         next += 1;
     }
+    count
 }
 
-// The code at the place of the least key and the one after it are made one.
+// Whether the live place before a place, if there is one, has the key `row`: then that place is joined first.
+fn is_later(keys: &[u32; 4096], last: usize, at: usize, row: u32) -> bool
+    requires { ⌜ (last ≤ at) × (at < 4096) ⌝ }
+    ensures { λ r. ⌜ Later (now (keys .entry)) last at row r ⌝ }
+{
+    if last >= at {
+        return false;
+    }
+    keys[last] == row
+}
+
+// The code at a place and the one after it are made one, the live places around them being given.
 fn join_at(
     file: &[u8],
     places: &[u32],
+    lefts: &[u32],
+    rights: &[u32],
     area: &[u32],
     n: usize,
-    joins: &mut [usize; 1024],
     words: &mut [u64; 65],
     work: &mut [u32],
     len: usize,
-    tree: &mut [u32; 8194],
-    at: usize,
+    keys: &mut [u32; 4096],
+    heads: &mut [u32; 4096],
+    pool: &mut [u32; 12289],
+    count: usize,
     row: u32,
-)
-    requires { ⌜ Finding (now file) (now places) (now area) n (now joins) ⌝ }
-    requires { ⌜ Keyed (now file) (now places) (now area) n len (now words) (now work) (now tree) × LeastAt n (now tree) at row ⌝ }
-    ensures { λ r. ⌜ Keeping (now (file .entry)) (now (places .entry)) (now (area .entry)) n (now (joins .exit)) (Turned (now (file .entry)) (now (places .entry)) (now (area .entry)) n len (now (words .entry)) (now (work .entry)) at row (now (words .exit)) (now (work .exit)) (now (tree .exit))) ⌝ }
+    last: usize,
+    at: usize,
+    next: usize,
+    after: usize,
+) -> usize
+    requires { ⌜ JoinsReady (now file) (now places) (now lefts) (now rights) (now area) n ⌝ }
+    requires { ⌜ State (now file) (now places) (now lefts) (now rights) (now area) n len (now words) (now work) (now keys) (now heads) (now pool) count × Around (isSet (now words)) (now keys) n len row last at next after ⌝ }
+    ensures { λ r. ⌜ Turned (now (file .entry)) (now (places .entry)) (now (lefts .entry)) (now (rights .entry)) (now (area .entry)) n len (now (words .entry)) (now (work .entry)) (now (keys .entry)) (now (heads .entry)) (now (pool .entry)) count row last at next (now (words .exit)) (now (work .exit)) (now (keys .exit)) (now (heads .exit)) (now (pool .exit)) r ⌝ }
 {
-    let next = next_live(words, at, len);
-    let after = next_live(words, next, len);
-    let last = last_live(words, at);
     work[at] = row;
     clear_bit(words, next);
-    put(tree, len + 1, next, NONE);
-    renew(
+    keys[next] = NONE;
+    let more = renew(
         file,
         places,
+        lefts,
+        rights,
         area,
         n,
-        joins,
-        words,
         work,
         len,
-        tree,
+        keys,
+        heads,
+        pool,
+        count,
         at,
         after,
     );
     if last == at {
-        return;
+        return more;
     }
     renew(
         file,
         places,
+        lefts,
+        rights,
         area,
         n,
-        joins,
-        words,
         work,
         len,
-        tree,
+        keys,
+        heads,
+        pool,
+        more,
         last,
         at,
-    );
+    )
 }
 
-// The lowest joins, one after the other, of the codes at the live places.
-fn merge(
+// The joins to a row from a place on, each at the code after the one joined before, as far as there are any.
+fn join_run(
     file: &[u8],
     places: &[u32],
+    lefts: &[u32],
+    rights: &[u32],
     area: &[u32],
     n: usize,
-    joins: &mut [usize; 1024],
     words: &mut [u64; 65],
     work: &mut [u32],
     len: usize,
-    tree: &mut [u32; 8194],
-)
-    requires { ⌜ Finding (now file) (now places) (now area) n (now joins) ⌝ }
-    requires { ⌜ Keyed (now file) (now places) (now area) n len (now words) (now work) (now tree) ⌝ }
-    ensures { λ r. ⌜ Merged (now (file .entry)) (now (places .entry)) (now (area .entry)) n len (now (words .entry)) (now (work .entry)) (now (words .exit)) (now (work .exit)) ⌝ }
+    keys: &mut [u32; 4096],
+    heads: &mut [u32; 4096],
+    pool: &mut [u32; 12289],
+    start: usize,
+    row: u32,
+    first: usize,
+) -> usize
+    requires { ⌜ JoinsReady (now file) (now places) (now lefts) (now rights) (now area) n ⌝ }
+    requires { ⌜ State (now file) (now places) (now lefts) (now rights) (now area) n len (now words) (now work) (now keys) (now heads) (now pool) start × ((row < n) × (first < 4096)) ⌝ }
+    ensures { λ r. ⌜ Ran (now (file .entry)) (now (places .entry)) (now (lefts .entry)) (now (rights .entry)) (now (area .entry)) n len (now (words .entry)) (now (work .entry)) (now (keys .entry)) (now (heads .entry)) (now (pool .entry)) start row first (now (words .exit)) (now (work .exit)) (now (keys .exit)) (now (heads .exit)) (now (pool .exit)) r ⌝ }
 {
-    loop {
-        let least = tree[1];
-        let row = least / 4096;
-        if wide(row) >= n {
-            return;
+    let mut count = start;
+    let mut at = first;
+    while keys[at] == row {
+        let last = last_live(words, at);
+        if is_later(keys, last, at, row) {
+            return count;
         }
-        let at = wide(least % 4096);
-        join_at(
+        let next = next_live(words, at, len);
+        let after = next_live(words, next, len);
+        count = join_at(
             file,
             places,
+            lefts,
+            rights,
             area,
             n,
-            joins,
             words,
             work,
             len,
-            tree,
-            at,
+            keys,
+            heads,
+            pool,
+            count,
             row,
+            last,
+            at,
+            next,
+            after,
         );
+        if after == len {
+            return count;
+        }
+        at = after;
+    }
+    count
+}
+
+// All joins to a row, from the places in its queue on.
+fn join_queue(
+    file: &[u8],
+    places: &[u32],
+    lefts: &[u32],
+    rights: &[u32],
+    area: &[u32],
+    n: usize,
+    words: &mut [u64; 65],
+    work: &mut [u32],
+    len: usize,
+    keys: &mut [u32; 4096],
+    heads: &mut [u32; 4096],
+    pool: &mut [u32; 12289],
+    start: usize,
+    row: u32,
+) -> usize
+    requires { ⌜ JoinsReady (now file) (now places) (now lefts) (now rights) (now area) n ⌝ }
+    requires { ⌜ State (now file) (now places) (now lefts) (now rights) (now area) n len (now words) (now work) (now keys) (now heads) (now pool) start × (row < n) ⌝ }
+    ensures { λ r. ⌜ RowJoined (now (file .entry)) (now (places .entry)) (now (lefts .entry)) (now (rights .entry)) (now (area .entry)) n len (now (words .entry)) (now (work .entry)) (now (keys .entry)) (now (heads .entry)) (now (pool .entry)) row (now (words .exit)) (now (work .exit)) (now (keys .exit)) (now (heads .exit)) (now (pool .exit)) r ⌝ }
+{
+    let mut count = start;
+    let queue = wide(row);
+    let mut entry = wide(heads[queue]);
+    while entry > 0 {
+        let met = pool[entry];
+        count = join_run(
+            file,
+            places,
+            lefts,
+            rights,
+            area,
+            n,
+            words,
+            work,
+            len,
+            keys,
+            heads,
+            pool,
+            count,
+            row,
+            wide(met % 4096),
+        );
+        entry = wide(met / 4096);
+    }
+    count
+}
+
+// The joins to each row, in the order of the rows, of the codes at the live places.
+fn merge(
+    file: &[u8],
+    places: &[u32],
+    lefts: &[u32],
+    rights: &[u32],
+    area: &[u32],
+    n: usize,
+    words: &mut [u64; 65],
+    work: &mut [u32],
+    len: usize,
+    keys: &mut [u32; 4096],
+    heads: &mut [u32; 4096],
+    pool: &mut [u32; 12289],
+    start: usize,
+)
+    requires { ⌜ JoinsReady (now file) (now places) (now lefts) (now rights) (now area) n ⌝ }
+    requires { ⌜ State (now file) (now places) (now lefts) (now rights) (now area) n len (now words) (now work) (now keys) (now heads) (now pool) start × Waiting (now keys) (now heads) (now pool) 0 ⌝ }
+    ensures { λ r. ⌜ Merged (now (file .entry)) (now (places .entry)) (now (lefts .entry)) (now (rights .entry)) (now (area .entry)) n len (now (words .entry)) (now (work .entry)) (now (words .exit)) (now (work .exit)) ⌝ }
+{
+    let mut count = start;
+    let mut row = 0;
+    while row < n {
+        count = join_queue(
+            file,
+            places,
+            lefts,
+            rights,
+            area,
+            n,
+            words,
+            work,
+            len,
+            keys,
+            heads,
+            pool,
+            count,
+            row as u32,
+        );
+        row += 1;
     }
 }
 
@@ -364,32 +457,50 @@ fn gather(words: &[u64; 65], work: &[u32], len: usize, out: &mut [u32]) -> usize
 pub fn encode_via_bitfield_core(
     file: &[u8],
     places: &[u32],
+    lefts: &[u32],
+    rights: &[u32],
     area: &[u32],
     n: usize,
     text: &[u8],
     out: &mut [u32],
     work: &mut [u32],
 ) -> usize
-    requires { ⌜ EncodeReady (now file) (now places) (now area) n (now text) (now out) (now work) ⌝ }
-    ensures { λ r. ⌜ Encoded (now (file .entry)) (now (places .entry)) (now (area .entry)) n (now (text .entry)) (now (out .entry)) (now (out .exit)) (now (work .entry)) (now (work .exit)) r ⌝ }
+    requires { ⌜ EncodeReady (now file) (now places) (now lefts) (now rights) (now area) n (now text) (now out) (now work) ⌝ }
+    ensures { λ r. ⌜ Encoded (now (file .entry)) (now (places .entry)) (now (lefts .entry)) (now (rights .entry)) (now (area .entry)) n (now (text .entry)) (now (out .entry)) (now (out .exit)) (now (work .entry)) (now (work .exit)) r ⌝ }
 {
     let len = text.len();
     let mut words = all_set();
-    let mut joins = [18446744073709551615usize; 1024];
-    let mut tree = [NONE; 8194];
+    let mut keys = [NONE; 4096];
+    let mut heads = [0u32; 4096];
+    let mut pool = [0u32; 12289];
     fill_byte_codes(file, places, area, n, text, work);
-    fill_keys(file, places, area, n, &mut joins, work, len, &mut tree);
-    grow(&mut tree, len + 1);
+    let count = fill_keys(
+        file,
+        places,
+        lefts,
+        rights,
+        area,
+        n,
+        work,
+        len,
+        &mut keys,
+        &mut heads,
+        &mut pool,
+    );
     merge(
         file,
         places,
+        lefts,
+        rights,
         area,
         n,
-        &mut joins,
         &mut words,
         work,
         len,
-        &mut tree,
+        &mut keys,
+        &mut heads,
+        &mut pool,
+        count,
     );
     gather(&words, work, len, out)
 }

@@ -51,7 +51,7 @@ pub fn longer_match(
     at: usize,
 ) -> Match
     requires { ⌜ Placed (now file) (now places) n ⌝ }
-    requires { ⌜ (16384 ≤ length (now area)) × (at + len ≤ length (now text)) ⌝ }
+    requires { ⌜ (row < n) × ((16384 ≤ length (now area)) × (at + len ≤ length (now text))) ⌝ }
     ensures { λ r. ⌜ LongerMatch (now (file .entry)) (now (places .entry)) n (now (area .entry)) (drop at (now (text .entry))) row len (r .row) (r .len) ⌝ }
 {
     forest::child(file, places, n, area, row, len, text, at + len)

@@ -11,13 +11,15 @@ use Rattle.theory.specs.Dictionary.{Dictionary, KnownText, none}
 use Rattle.theory.specs.Shortest.{shortest}
 use Rattle.theory.proofs.Lists.{lt-or-ge}
 use Rattle.theory.proofs.PairCheck.{Lawful}
-use Rattle.theory.proofs.Longest.{known-drop}
-use Rattle.theory.proofs.RowsAt.{rows-known}
+use Rattle.theory.proofs.Longest.{rowLength, known-drop}
+use Rattle.theory.proofs.RowsAt.{filled, rows-known}
 use Rattle.theory.proofs.ShortestSteps.{chosen, chosen-in, shortest-nil, shortest-cons}
-use Rattle.shortest_encoder.specs.Entries.{entry, countFrom, Bounded, AreEntries}
+use Rattle.built.specs.Built.{dictionaryOf, Built}
+use Rattle.built.proofs.Rows.{count-is, bytes-are, places-ready}
+use Rattle.shortest_encoder.specs.Entries.{entryOf, entry, countFrom, Bounded, AreEntries}
 
 module _ (work : List ℕ) (m j : ℕ) where
-  pub count-inside : j < m → getD work j 0 / 4096 ≡ countFrom work m j
+  pub count-inside : j < m → getD work j 0 / 262144 ≡ countFrom work m j
   unfolding countFrom
   count-inside h = rw (lt-ltb j m h, countFrom)
 
@@ -32,20 +34,48 @@ module _ (work : List ℕ) (m j : ℕ) where
       (λ l. omega (arith, count-beyond l))
       (lt-or-ge j m)
 
-module _ (D : Dictionary) (A : Lawful D) (few : D .count ≤ 4096) where
-  -- an entry gives the count of codes and the chosen row
+-- an entry holds a count of codes, the length of a row, and the row
+pub record Holds (m l r e : ℕ) : Type 0 where
+  pub count : e / 262144 ≡ m
+  pub size : e / 4096 % 64 + l ≡ 64
+  pub code : e % 4096 ≡ r
+
+pub entry-holds : (m l r : ℕ) → 0 < l → l ≤ 64 → r < 4096 → (e : ℕ) → e ≡ entryOf m l r → Holds m l r e
+entry-holds m l r f s h e is =
+    let w : e / 4096 ≡ m * 64 + (64 - l) = omega arith in
+    record { count = omega arith; size = omega arith; code = omega arith }
+
+-- an entry has room for the numbers and the lengths of the rows
+pub record Fits (D : Dictionary) : Type 0 where
+  pub few : D .count ≤ 4096
+  pub short : (c : ℕ) → c < D .count → length (D .bytes c) ≤ 64
+
+pub built-fits : (file places lefts rights prefixes area : List ℕ) (n : ℕ) → Built file places lefts rights prefixes area n → Fits (dictionaryOf file)
+built-fits file places lefts rights prefixes area n B =
+    let P = places-ready file places lefts rights prefixes area n B in
+    let e = count-is file places lefts rights prefixes area n B in
+    record {
+      few = omega (arith, P .placed .few);
+      short = λ c h. let k : c < n = omega arith in omega (arith, P .short c k, ap length (bytes-are file places lefts rights prefixes area n B c k));
+    }
+
+module _ (D : Dictionary) (A : Lawful D) (F : Fits D) where
+  -- an entry gives the count of codes, and the chosen row with its length
   pub record Gives (t : List ℕ) (e : ℕ) : Type 0 where
-    pub is : e ≡ length (shortest D t) * 4096 + chosen D t
-    pub row : chosen D t < D .count
-    pub count : e / 4096 ≡ length (shortest D t)
-    pub code : e % 4096 ≡ chosen D t
+    pub is : e ≡ entryOf (length (shortest D t)) (rowLength D (chosen D t)) (chosen D t)
+    pub holds : Holds (length (shortest D t)) (rowLength D (chosen D t)) (chosen D t) e
 
   pub entry-gives : (t : List ℕ) → KnownText D t → 0 < length t → Gives t (entry D t)
   unfolding entry
   entry-gives t k h =
       let q : firstOr none (shortest D t) ≡ chosen D t = ap (firstOr none) (shortest-cons D A t k h) in
+      let z : rowLength D (firstOr none (shortest D t)) ≡ rowLength D (chosen D t) = ap (rowLength D) q in
       let r : chosen D t < D .count = rows-known D (length t) t (chosen D t) (chosen-in D A t k h) in
-      record { is = omega arith; row = r; count = omega arith; code = omega arith }
+      let e : entry D t ≡ entryOf (length (shortest D t)) (rowLength D (chosen D t)) (chosen D t) = omega arith in
+      record {
+        is = e;
+        holds = entry-holds (length (shortest D t)) (rowLength D (chosen D t)) (chosen D t) (filled D A (chosen D t)) (F .short (chosen D t) r) (let m = F .few in omega arith) (entry D t) e;
+      }
 
   module _ (text work : List ℕ) (k : KnownText D text) (i : ℕ) (E : AreEntries D text work i) where
     pub gives-at : (j : ℕ) → i ≤ j → j < length text → Gives (drop j text) (getD work j 0)
@@ -54,6 +84,6 @@ module _ (D : Dictionary) (A : Lawful D) (few : D .count ≤ 4096) where
     -- the counts that are read are those of the shortest codes
     pub counts-are : (j : ℕ) → i ≤ j → countFrom work (length text) j ≡ length (shortest D (drop j text))
     counts-are j h = ⊎-elim
-        (λ l. sym (count-inside work (length text) j l) ∙ gives-at j h l .count)
+        (λ l. sym (count-inside work (length text) j l) ∙ gives-at j h l .holds .count)
         (λ l. sym (count-beyond work (length text) j l) ∙ sym (ap length (ap (shortest D) (drop-of-length-le text l) ∙ shortest-nil D)))
         (lt-or-ge j (length text))

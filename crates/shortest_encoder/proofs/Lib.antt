@@ -1,4 +1,5 @@
 pub mod Counts
+pub mod Rising
 pub mod Keeping
 pub mod Trying
 pub mod Placing

@@ -72,7 +72,7 @@ module _ (file places area : List ℕ) (n : ℕ) (text work₀ : List ℕ) where
             beyond = drop-set-lt (length text) work (i - 1) r (omega (arith, P .place)) ∙ P .beyond;
             bounded = record {
               row = set-from (λ (j x : ℕ). j < length text → x % 4096 < n) work (i - 1) r inside (λ l. e .row) (λ j h l. P .bounded .row j (omega arith) l);
-              few = set-from (λ (j x : ℕ). j < length text → x / 4096 ≤ length text - j) work (i - 1) r inside (λ l. e .few) (λ j h l. P .bounded .few j (omega arith) l);
+              few = set-from (λ (j x : ℕ). j < length text → x / 262144 ≤ length text - j) work (i - 1) r inside (λ l. e .few) (λ j h l. P .bounded .few j (omega arith) l);
             };
             built = λ lefts rights prefixes B.
                 let later : AreEntries (dictionaryOf file) text work (i - 1 + 1) = λ j h l. P .built lefts rights prefixes B j (omega arith) l in

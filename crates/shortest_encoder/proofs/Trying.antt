@@ -1,27 +1,28 @@
 -- The rows at a place are tried, shortest first. Assumes nothing.
-use mathlib.Core.Path.{_≡_, refl, sym, ap, _∙_}
-use mathlib.Core.Logic.{_⊎_, inl, ⊎-elim}
-use mathlib.Core.List.{List, [], _++_}
-use Prim.Native.Nat.{ℕ, _+_, _-_, _*_, _/_, _%_, _≤_, _<_}
+use mathlib.Core.Path.{_≡_, sym, ap, _∙_}
+use mathlib.Core.Logic.{⊎-elim}
+use mathlib.Core.List.{List, _++_}
+use Prim.Native.Nat.{ℕ, _+_, _-_, _/_, _%_, _≤_, _<_, min}
 use native.Mathlib.Omega.{arith}
 use lib.ListN.{length, length-drop, getD, drop}
 use lib.Seq.{getD-drop}
 use Rattle.placed_rows.specs.Rows.{none, row}
 use Rattle.placed_rows.specs.Texts.{Begins}
-use Rattle.placed_rows.proofs.Placing.{row-none}
 use Rattle.placed_rows.proofs.Beginning.{begins-length}
 use Rattle.theory.specs.Dictionary.{Dictionary, Octets, KnownText}
 use Rattle.theory.specs.Parts.{rowsAt}
+use Rattle.theory.proofs.Lists.{lt-or-ge}
 use Rattle.theory.proofs.PairCheck.{Lawful}
 use Rattle.theory.proofs.RowsAt.{In, different, filled, rows-known, rows-every}
 use Rattle.theory.proofs.Longest.{rowLength, known-drop, row-begins}
 use Rattle.theory.proofs.ShortestSteps.{behind, behind-drop, chosen, chosen-in, chosen-fewest, chosen-longest, shortest-cons}
-use Rattle.search_area.specs.Answers.{Within, LongerMatch}
+use Rattle.search_area.specs.Answers.{Longer, LongerMatch}
 use Rattle.built.specs.Built.{dictionaryOf, Built}
 use Rattle.built.proofs.Rows.{octets, count-is, row-bytes, lawful-is, known}
-use Rattle.shortest_encoder.specs.Entries.{entry, countFrom, AreEntries, EntryReady, EntryIs}
-use Rattle.shortest_encoder.proofs.Counts.{count-few, entry-gives, counts-are}
-use Rattle.shortest_encoder.proofs.Keeping.{Best, best-start, best-replaced, best-kept}
+use Rattle.shortest_encoder.specs.Entries.{entryOf, entry, countFrom, AreEntries, EntryReady, EntryIs}
+use Rattle.shortest_encoder.proofs.Counts.{entry-holds, count-few, built-fits, entry-gives, counts-are}
+use Rattle.shortest_encoder.proofs.Rising.{reached-none, none-empty, within}
+use Rattle.shortest_encoder.proofs.Keeping.{Best, best-first, best-replaced, best-kept}
 
 -- each element of a text is an octet
 abbrev pub Bytes : List ℕ → Type 0
@@ -34,18 +35,34 @@ bytes-drop text i o = octets (drop i text) (λ k. rw (getD-drop i text k 0) (o (
 abbrev codesWith : List ℕ → ℕ → ℕ → ℕ → ℕ
 codesWith work m i l = countFrom work m (i + l) + 1
 
--- of the rows at place i up to row p, of len bytes, best is the best one, with count codes
-abbrev Tried : List ℕ → List ℕ → ℕ → List ℕ → List ℕ → ℕ → ℕ → ℕ → ℕ → ℕ → Type 0
-Tried file places n text work i count best p len = Best (row file places n) n (drop i text) (codesWith work (length text) i) (length text - i) count best p len
+-- of the rows at place i up to row p, of len bytes, row best is the best one, with count codes
+abbrev BestAt : List ℕ → List ℕ → ℕ → List ℕ → List ℕ → ℕ → ℕ → ℕ → ℕ → ℕ → Type 0
+BestAt file places n text work i count best p len = Best (row file places n) n (drop i text) (codesWith work (length text) i) count best p len
 
--- the entry best is of that row and count; on any contents it is of a row, with no more codes than bytes
+-- the entry best is of that row, with its length and its count
+pub record Tried (file places : List ℕ) (n : ℕ) (text work : List ℕ) (i best p len : ℕ) : Type 0 where
+  pub is : BestAt file places n text work i (best / 262144) (best % 4096) p len
+  pub size : best / 4096 % 64 + length (row file places n (best % 4096)) ≡ 64
+
+-- on any contents the entry best is of a row, with no more codes than bytes
 pub record Trying (file places area : List ℕ) (n : ℕ) (text work : List ℕ) (i best p len : ℕ) : Type 0 where
   pub ready : EntryReady file places area n text work i
   pub bytes : Bytes text
+  pub below : p < n
   pub inside : i + len ≤ length text
   pub best-row : best % 4096 < n
-  pub few : best / 4096 ≤ length text - i
-  pub tried : (lefts rights prefixes : List ℕ) → Built file places lefts rights prefixes area n → Tried file places n text work i (best / 4096) (best % 4096) p len
+  pub few : best / 262144 ≤ length text - i
+  pub tried : (lefts rights prefixes : List ℕ) → Built file places lefts rights prefixes area n → Tried file places n text work i best p len
+
+-- what is known of row r, of l bytes, that is met at place i, on any contents
+pub record Met (n : ℕ) (text work : List ℕ) (i len r l : ℕ) : Type 0 where
+  pub below : r < n
+  pub narrow : r < 4096
+  pub longer : len < l
+  pub short : l ≤ 64
+  pub inside : i + l ≤ length text
+  pub few : codesWith work (length text) i l ≤ length text - i
+  pub most : codesWith work (length text) i l ≤ 4096
 
 module _ (file places area : List ℕ) (n : ℕ) (text work : List ℕ) (i : ℕ) (R : EntryReady file places area n text work i) where
   small : n ≤ 4096
@@ -54,25 +71,45 @@ module _ (file places area : List ℕ) (n : ℕ) (text work : List ℕ) (i : ℕ
   row-some : (c : ℕ) → c < n → 0 < length (row file places n c)
   row-some c h = let f = R .ready .places-ready .filled c h in rw (R .ready .places-ready .rows-are c h) f
 
-  none-empty : row file places n none ≡ []
-  none-empty = row-none file places n none (let f = small in omega arith)
-
   -- a row and the codes behind it are at most as many as the bytes
   codes-few : (l : ℕ) → 0 < l → i + l ≤ length text → codesWith work (length text) i l ≤ length text - i
   codes-few l h s = omega (arith, count-few work (length text) (i + l) n (i + 1) (R .later) (omega arith))
 
-  -- before any row: as many codes as bytes, which no row exceeds
-  pub trying-start : Bytes text → Trying file places area n text work i ((length text - i) * 4096) none 0
-  trying-start o =
-      let s = R .inside in
-      let least = R .ready .places-ready .least in
+  -- row r, of l bytes, is met at the place after rows of up to len bytes
+  module _ (p len r l : ℕ) (M : LongerMatch file places n area (drop i text) p len r l) (ne : r ≡ none → ⊥) where
+    pub met : Met n text work i len r l
+    met =
+        let w = within file places n area (drop i text) p len r l M ne in
+        let s : i + l ≤ length text = let q = R .inside in omega (arith, w .room, length-drop i text) in
+        record {
+          below = w .below;
+          narrow = let f = small in omega (arith, w .below);
+          longer = w .longer;
+          short = w .short;
+          inside = s;
+          few = codes-few l (omega (arith, w .longer)) s;
+          most = let f = R .ready .few in omega (arith, codes-few l (omega (arith, w .longer)) s);
+        }
+
+  -- the entry of that row, where it is the best one
+  entered : (o : Bytes text) (len r l : ℕ) → Met n text work i len r l → (e : ℕ) → e ≡ entryOf (codesWith work (length text) i l) l r
+      → ((lefts rights prefixes : List ℕ) → Built file places lefts rights prefixes area n → BestAt file places n text work i (codesWith work (length text) i l) r r l)
+      → Trying file places area n text work i e r l
+  entered o len r l m e is best =
+      let v = entry-holds (codesWith work (length text) i l) l r (omega (arith, m .longer)) (m .short) (m .narrow) e is in
       record {
         ready = R;
         bytes = o;
-        inside = omega arith;
-        best-row = omega arith;
-        few = omega arith;
-        tried = λ lefts rights prefixes B. best-start (row file places n) n (drop i text) (codesWith work (length text) i) (length text - i) ((length text - i) * 4096 / 4096) ((length text - i) * 4096 % 4096) none-empty row-some (omega arith);
+        below = m .below;
+        inside = m .inside;
+        best-row = rw (v .code) (m .below);
+        few = rw (v .count) (m .few);
+        tried = λ lefts rights prefixes B.
+            let q = best lefts rights prefixes B in
+            record {
+              is = rw (v .count, v .code) q;
+              size = omega (arith, v .size, q .reached .size, ap (λ (x : ℕ). length (row file places n x)) (v .code));
+            };
       }
 
   -- on the tables of a build, with the entries of the later places
@@ -97,10 +134,9 @@ module _ (file places area : List ℕ) (n : ℕ) (text work : List ℕ) (i : ℕ
 
     behind-is : (c : ℕ) → c < n → behind D (drop i text) c + 1 ≡ codesWith work (length text) i (length (row file places n c))
     behind-is c h =
-        let f = small in
         let e : behind D (drop i text) c ≡ countFrom work (length text) (i + length (row file places n c)) =
         behind-drop D i text c
-        ∙ sym (counts-are D A (omega (arith, counted)) text work K (i + 1) E (i + rowLength D c) (omega (arith, filled D A c)))
+        ∙ sym (counts-are D A (built-fits file places lefts rights prefixes area n B) text work K (i + 1) E (i + rowLength D c) (omega (arith, filled D A c)))
         ∙ ap (λ (b : List ℕ). countFrom work (length text) (i + length b)) (sym (row-bytes file places lefts rights prefixes area n B c h)) in
         omega arith
 
@@ -127,37 +163,36 @@ module _ (file places area : List ℕ) (n : ℕ) (text work : List ℕ) (i : ℕ
         (omega (arith, begins-length (row file places n c) (drop i text) b, ap length e))
 
     -- where all rows at the place are tried, the best is that row
-    module _ (count best p len : ℕ) (T : Tried file places n text work i count best p len) (h : best < n) (all : length (row file places n wanted) ≤ len) where
-      some : p ≡ none → ⊥
-      some z = omega (arith, row-some wanted wanted-row, T .reached .size, ap (λ (x : ℕ). length (row file places n x)) z, ap length none-empty)
-
-      best-is : best ≡ wanted
+    module _ (best p len : ℕ) (T : Tried file places n text work i best p len) (h : best % 4096 < n) (all : length (row file places n wanted) ≤ len) where
+      best-is : best % 4096 ≡ wanted
       best-is =
           let a = behind-is wanted wanted-row in
-          let b = behind-is best h in
-          let m = row-in best h (T .begins some) in
-          let low = T .fewest wanted wanted-row wanted-begins all in
-          let high = chosen-fewest D A (drop i text) K-here here best m in
-          let is = T .is some in
-          let long = T .longest wanted wanted-row wanted-begins all (omega arith) in
+          let b = behind-is (best % 4096) h in
+          let m = row-in (best % 4096) h (T .is .begins) in
+          let low = T .is .fewest wanted wanted-row wanted-begins all in
+          let high = chosen-fewest D A (drop i text) K-here here (best % 4096) m in
+          let is = T .is .is in
+          let long = T .is .longest wanted wanted-row wanted-begins all (omega arith) in
           ⊎-elim (λ e. e)
           (λ l. absurd (omega (
             arith,
             ap length (row-bytes file places lefts rights prefixes area n B wanted wanted-row),
-            ap length (row-bytes file places lefts rights prefixes area n B best h),
+            ap length (row-bytes file places lefts rights prefixes area n B (best % 4096) h),
           )))
-          (chosen-longest D A (drop i text) K-here here best m (omega arith))
+          (chosen-longest D A (drop i text) K-here here (best % 4096) m (omega arith))
 
-      entry-here : count * 4096 + best ≡ entry D (drop i text)
+      entry-here : best ≡ entry D (drop i text)
       entry-here =
-          let f = small in
-          let g = entry-gives D A (omega (arith, counted)) (drop i text) K-here here in
+          let g = entry-gives D A (built-fits file places lefts rights prefixes area n B) (drop i text) K-here here in
           omega (
             arith,
             g .is,
-            T .is some,
-            behind-is best h,
+            T .is .is,
+            T .size,
+            behind-is (best % 4096) h,
             best-is,
+            ap length (row-bytes file places lefts rights prefixes area n B (best % 4096) h),
+            ap (rowLength D) best-is,
             ap length (shortest-cons D A (drop i text) K-here here),
             ap (behind D (drop i text)) best-is,
           )
@@ -174,81 +209,80 @@ module _ (file places area : List ℕ) (n : ℕ) (text work : List ℕ) (i best 
     few = T .few;
     built = λ lefts rights prefixes B E.
         let o = T .bytes in
-        let e = entry-here file places area n text work i R o lefts rights prefixes B E (best / 4096) (best % 4096) p len (T .tried lefts rights prefixes B) (T .best-row)
+        entry-here file places area n text work i R o lefts rights prefixes B E best p len (T .tried lefts rights prefixes B) (T .best-row)
         (all lefts rights prefixes B (wanted file places area n text work i R o lefts rights prefixes B E) (wanted-row file places area n text work i R o lefts rights prefixes B E)
-        (wanted-begins file places area n text work i R o lefts rights prefixes B E)) in
-        omega arith;
+        (wanted-begins file places area n text work i R o lefts rights prefixes B E));
   }
 
   pub trying-ends : length text ≤ i + len → EntryIs file places area n text work i best
   trying-ends h = done (λ lefts rights prefixes B d k b. omega (arith, begins-length (row file places n d) (drop i text) b, length-drop i text))
 
   module _ (r l : ℕ) (M : LongerMatch file places n area (drop i text) p len r l) where
+    next : (lefts rights prefixes : List ℕ) → Built file places lefts rights prefixes area n → Longer (row file places n) n (drop i text) len r l
+    next lefts rights prefixes B = M .next (B .finds) (T .tried lefts rights prefixes B .is .reached)
+
     pub trying-stops : r ≡ none → EntryIs file places area n text work i best
-    trying-stops z = done (λ lefts rights prefixes B d k b. M .next (B .finds) (T .tried lefts rights prefixes B .reached) .all z d k b)
+    trying-stops z = done (λ lefts rights prefixes B. next lefts rights prefixes B .all z)
 
-    module _ (ne : r ≡ none → ⊥) where
-      pub within : Within n len (length (drop i text)) r l
-      within = ⊎-elim (λ z. absurd (ne z)) (λ w. w) (M .bound)
+    module _ (ne : r ≡ none → ⊥) (e : ℕ) (is : e ≡ entryOf (codesWith work (length text) i l) l r) where
+      m : Met n text work i len r l
+      m = met file places area n text work i R p len r l M ne
 
-      pub next-inside : i + l ≤ length text
-      next-inside = let s = T .inside in omega (arith, within .room, length-drop i text)
-
-      pub next-few : countFrom work (length text) (i + l) + 1 ≤ length text - i
-      next-few = codes-few file places area n text work i R l (omega (arith, within .longer)) next-inside
-
-      replaced : codesWith work (length text) i l ≤ best / 4096 → Trying file places area n text work i (codesWith work (length text) i l * 4096 + r) r l
+      -- the entry of the longer row is less: it makes as few codes
+      replaced : e < best → Trying file places area n text work i e r l
       replaced h =
-          let w = within .below in
-          let s = small file places area n text work i R in
-          let f = next-few in
-          let a : (codesWith work (length text) i l * 4096 + r) / 4096 ≡ codesWith work (length text) i l = omega arith in
-          let b : (codesWith work (length text) i l * 4096 + r) % 4096 ≡ r = omega arith in
-          record {
-            ready = R;
-            bytes = T .bytes;
-            inside = next-inside;
-            best-row = omega arith;
-            few = omega arith;
-            tried = λ lefts rights prefixes B. rw (a, b) (best-replaced (row file places n) n (drop i text) (codesWith work (length text) i) (length text - i)
-                (best / 4096) (best % 4096) p len (T .tried lefts rights prefixes B) r l (M .next (B .finds) (T .tried lefts rights prefixes B .reached)) w ne h);
-          }
+          let q : codesWith work (length text) i l ≤ best / 262144 = omega arith in
+          entered file places area n text work i R (T .bytes) len r l m e is (λ lefts rights prefixes B.
+          best-replaced (row file places n) n (drop i text) (codesWith work (length text) i) (best / 262144) (best % 4096) p len
+          (T .tried lefts rights prefixes B .is) r l (next lefts rights prefixes B) (m .below) ne q)
 
-      kept : best / 4096 < codesWith work (length text) i l → Trying file places area n text work i best r l
+      -- or it is not: it makes more codes
+      kept : best ≤ e → Trying file places area n text work i best r l
       kept h = record {
         ready = R;
         bytes = T .bytes;
-        inside = next-inside;
+        below = m .below;
+        inside = m .inside;
         best-row = T .best-row;
         few = T .few;
-        tried = λ lefts rights prefixes B. best-kept (row file places n) n (drop i text) (codesWith work (length text) i) (length text - i)
-            (best / 4096) (best % 4096) p len (T .tried lefts rights prefixes B) r l (M .next (B .finds) (T .tried lefts rights prefixes B .reached)) (within .below) ne next-few h;
+        tried = λ lefts rights prefixes B.
+            let t = T .tried lefts rights prefixes B in
+            let q : best / 262144 < codesWith work (length text) i l = omega (arith, t .size, t .is .size, m .narrow, m .longer, m .short) in
+            record {
+              is = best-kept (row file places n) n (drop i text) (codesWith work (length text) i) (best / 262144) (best % 4096) p len
+                  (t .is) r l (next lefts rights prefixes B) (m .below) ne (m .longer) q;
+              size = t .size;
+            };
       }
 
-      -- a turn: the longer row takes the place of the best one if it makes as few codes
-      pub trying-more : (c b : ℕ) → c ≡ countFrom work (length text) (i + l) → ((c + 1 ≤ best / 4096) × (b ≡ (c + 1) * 4096 + r)) ⊎ ((best / 4096 < c + 1) × (b ≡ best))
-          → Trying file places area n text work i b r l
-      trying-more c b e o = ⊎-elim (λ u. rw (u .1, e) (replaced (rw e at (u .0)))) (λ u. rw (u .1) (kept (rw e at (u .0)))) o
+      -- a turn: the lesser entry is kept
+      pub trying-more : (b : ℕ) → b ≡ min best e → Trying file places area n text work i b r l
+      trying-more b q = ⊎-elim
+          (λ h. let z : b ≡ e = omega arith in rw z (replaced h))
+          (λ h. let z : b ≡ best = omega arith in rw z (kept h))
+          (lt-or-ge e best)
 
 -- the first row
 module _ (file places area : List ℕ) (n : ℕ) (text work : List ℕ) (i : ℕ) (R : EntryReady file places area n text work i) (o : Bytes text) (r l : ℕ)
     (M : LongerMatch file places n area (drop i text) none 0 r l) where
+  first : (lefts rights prefixes : List ℕ) → Built file places lefts rights prefixes area n → Longer (row file places n) n (drop i text) 0 r l
+  first lefts rights prefixes B = M .next (B .finds) (reached-none (row file places n) n (drop i text) (none-empty file places n (R .ready .places-ready .placed)))
+
   pub trying-none : r ≡ none → EntryIs file places area n text work i 0
   trying-none z = record {
     row = let f = R .ready .places-ready .least in omega arith;
     few = omega arith;
     built = λ lefts rights prefixes B E.
-        let T = trying-start file places area n text work i R o .tried lefts rights prefixes B in
         let w = wanted-row file places area n text work i R o lefts rights prefixes B E in
         absurd (omega (
           arith,
           row-some file places area n text work i R (wanted file places area n text work i R o lefts rights prefixes B E) w,
-          M .next (B .finds) (T .reached) .all z (wanted file places area n text work i R o lefts rights prefixes B E) w (wanted-begins file places area n text work i R o lefts rights prefixes B E),
+          first lefts rights prefixes B .all z (wanted file places area n text work i R o lefts rights prefixes B E) w (wanted-begins file places area n text work i R o lefts rights prefixes B E),
         ));
   }
 
-  pub trying-first : (r ≡ none → ⊥) → (c : ℕ) → c ≡ countFrom work (length text) (i + l) → Trying file places area n text work i ((c + 1) * 4096 + r) r l
-  trying-first ne c e =
-      let T = trying-start file places area n text work i R o in
-      let f = next-few file places area n text work i ((length text - i) * 4096) none 0 T r l M ne in
-      trying-more file places area n text work i ((length text - i) * 4096) none 0 T r l M ne c ((c + 1) * 4096 + r) e (inl (omega arith, refl))
+  pub trying-first : (r ≡ none → ⊥) → (e : ℕ) → e ≡ entryOf (codesWith work (length text) i l) l r → Trying file places area n text work i e r l
+  trying-first ne e is =
+      let m = met file places area n text work i R none 0 r l M ne in
+      entered file places area n text work i R o 0 r l m e is (λ lefts rights prefixes B.
+      best-first (row file places n) n (drop i text) (codesWith work (length text) i) (row-some file places area n text work i R) r l (first lefts rights prefixes B) (m .below) ne)

@@ -1,4 +1,4 @@
--- The entries of the work buffer: for each place of a text the count of the shortest codes from there on, and the first of them. Assumes nothing.
+-- The entries of the work buffer: for each place of a text the count of the shortest codes from there on, and the first of them with its length. Assumes nothing.
 use mathlib.Core.Path.{_≡_}
 use mathlib.Core.List.{List}
 use mathlib.Core.Bool.{true, false}
@@ -8,22 +8,29 @@ use lib.Dec.{ltb}
 use Rattle.theory.specs.Lists.{firstOr}
 use Rattle.theory.specs.Dictionary.{Dictionary, none}
 use Rattle.theory.specs.Shortest.{shortest}
-use Rattle.tables.specs.Ready.{PlacesReady}
 use Rattle.built.specs.Built.{dictionaryOf, Built}
 use Rattle.shortest_encoder.specs.Encoders.{Written, Codes, EntriesReady}
 
--- the entry of a text: the count of its shortest codes times 4,096, and the first of them
+-- the entry of count codes, the first of which is row, of len bytes: of two entries the lesser one has fewer codes, or as many and the longer row
+abbrev pub entryOf : ℕ → ℕ → ℕ → ℕ
+entryOf count len row = count * 262144 + (64 - len) * 4096 + row
+
+-- the first of a text's shortest codes
+abbrev first : Dictionary → List ℕ → ℕ
+first D t = firstOr none (shortest D t)
+
+-- the entry of a text, of its shortest codes
 unfoldable pub entry : Dictionary → List ℕ → ℕ
-entry D t = length (shortest D t) * 4096 + firstOr none (shortest D t)
+entry D t = entryOf (length (shortest D t)) (length (D .bytes (first D t))) (first D t)
 
 -- the count of codes from place j on, by the entries of the places below m; 0 from m on
 unfoldable pub countFrom : List ℕ → ℕ → ℕ → ℕ
-countFrom work m j = elim (ltb j m) [ true ↦ getD work j 0 / 4096 | false ↦ 0 ]
+countFrom work m j = elim (ltb j m) [ true ↦ getD work j 0 / 262144 | false ↦ 0 ]
 
 -- the entries of the places from i on and below m: a row, and no more codes than bytes
 pub record Bounded (n : ℕ) (work : List ℕ) (m i : ℕ) : Type 0 where
   pub row : (j : ℕ) → i ≤ j → j < m → getD work j 0 % 4096 < n
-  pub few : (j : ℕ) → i ≤ j → j < m → getD work j 0 / 4096 ≤ m - j
+  pub few : (j : ℕ) → i ≤ j → j < m → getD work j 0 / 262144 ≤ m - j
 
 -- from place i on, each is the entry of the text from its place on
 abbrev pub AreEntries : Dictionary → List ℕ → List ℕ → ℕ → Type 0
@@ -37,7 +44,7 @@ pub record EntryReady (file places area : List ℕ) (n : ℕ) (text work : List 
 
 pub record EntryIs (file places area : List ℕ) (n : ℕ) (text work : List ℕ) (i r : ℕ) : Type 0 where
   pub row : r % 4096 < n
-  pub few : r / 4096 ≤ length text - i
+  pub few : r / 262144 ≤ length text - i
   pub built : (lefts rights prefixes : List ℕ) → Built file places lefts rights prefixes area n → AreEntries (dictionaryOf file) text work (i + 1)
       → r ≡ entry (dictionaryOf file) (drop i text)
 
@@ -49,14 +56,12 @@ pub record Entries (file places area : List ℕ) (n : ℕ) (text work work' : Li
   pub built : (lefts rights prefixes : List ℕ) → Built file places lefts rights prefixes area n → AreEntries (dictionaryOf file) text work' 0
 
 -- the codes are read from the entries of all places
-pub record CodesReady (file places : List ℕ) (n : ℕ) (text work out : List ℕ) : Type 0 where
-  pub places-ready : PlacesReady file places n
+pub record CodesReady (text work out : List ℕ) : Type 0 where
   pub few : length text ≤ 4096
   pub room : length text ≤ length work
   pub out-room : length text ≤ length out
-  pub bounded : Bounded n work (length text) 0
 
-pub record CodesRead (file places : List ℕ) (n : ℕ) (text work out out' : List ℕ) (r : ℕ) : Type 0 where
-  pub written : Written n text out out' r
-  pub built : (lefts rights prefixes area : List ℕ) → Built file places lefts rights prefixes area n → AreEntries (dictionaryOf file) text work 0
+pub record CodesRead (text work out out' : List ℕ) (r : ℕ) : Type 0 where
+  pub written : (n : ℕ) → Bounded n work (length text) 0 → Written n text out out' r
+  pub built : (file places lefts rights prefixes area : List ℕ) (n : ℕ) → Built file places lefts rights prefixes area n → AreEntries (dictionaryOf file) text work 0
       → Codes (shortest (dictionaryOf file) text) out out' r

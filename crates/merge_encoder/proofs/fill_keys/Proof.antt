@@ -1,58 +1,38 @@
--- `merge_encoder::fill_keys` meets its contract: each turn is one of `Starting`. Assumes nothing.
+-- `merge_encoder::fill_keys` meets its contract: each turn is one of `Keying`. Assumes nothing.
 use native.Mathlib.Omega.{arith}
 use Prim.Native.Nat.{_-_}
-use Rattle.merge_encoder.specs.Steps.{KnownJoins}
-use Rattle.merge_encoder.proofs.Starting.{Keying, keying-start, keying-more, keying-end}
+use Rattle.merge_encoder.proofs.Keying.{Keying, keying-start, keying-ready, keying-more, keying-end}
 use Rattle.merge_encoder.proofs.fill_keys.Statement.{statement}
 use Rattle.merge_encoder.proofs.fill_keys.Tie as tie
 
 abbrev Inv-loop : tie.InvT-loop
-Inv-loop file places area n joins₀ work len tree₀ next₀ joins tree next = Keying file places area n len work tree next × KnownJoins file places area n joins
+Inv-loop file places lefts rights area n work len keys₀ heads₀ pool₀ count₀ next₀ keys heads pool count next =
+    Keying file places lefts rights area n len work keys heads pool count next
 
 abbrev μ-loop : tie.MeasureT-loop
-μ-loop file places area n joins₀ work len tree₀ next₀ joins tree next = len - next
+μ-loop file places lefts rights area n work len keys₀ heads₀ pool₀ count₀ next₀ keys heads pool count next =
+    len - next
 
 loop-holds : tie.Need-loop-holds Inv-loop μ-loop
-loop-holds c = (keying-start _ _ _ _ _ _ _ (c .before .before .before .before .pre .0 .1) (c .before .before .before .before .pre .1), c .before .before .before .before .pre .0 .0 .known)
+loop-holds c = keying-start _ _ _ _ _ _ _ _ _ _ _ (c .before .before .before .before .before .before .pre)
 
-sub-at : tie.Need-sub-at Inv-loop μ-loop
-sub-at c = omega (arith, c .before .loop .inv .0 .high, c .before .loop .inv .0 .low, c .before .before .before .before .before .before .pre .0 .1 .few, c .before .before .before .before .before .before .pre .0 .1 .room)
+sub-renew : tie.Need-sub-renew Inv-loop μ-loop
+sub-renew c = omega (arith, c .before .before .before .before .loop .inv .low)
 
-add-leaf : tie.Need-add-leaf Inv-loop μ-loop
-add-leaf c = omega (arith, c .before .loop .inv .0 .high, c .before .loop .inv .0 .low, c .before .before .before .before .before .before .pre .0 .1 .few, c .before .before .before .before .before .before .pre .0 .1 .room)
-
-mul-join-key : tie.Need-mul-join-key Inv-loop μ-loop
-mul-join-key c = omega (arith, c .before .before .loop .inv .0 .high, c .before .before .loop .inv .0 .low, c .before .before .before .before .before .before .before .pre .0 .1 .few, c .before .before .before .before .before .before .before .pre .0 .1 .room)
-
-shared-slice-read-join-key : tie.Need-shared-slice-read-join-key Inv-loop μ-loop
-shared-slice-read-join-key c = omega (arith, c .before .before .before .loop .inv .0 .high, c .before .before .before .loop .inv .0 .low, c .before .before .before .before .before .before .before .before .pre .0 .1 .few, c .before .before .before .before .before .before .before .before .pre .0 .1 .room)
-
-mul-join-key-2 : tie.Need-mul-join-key-2 Inv-loop μ-loop
-mul-join-key-2 c = omega (arith, c .before .before .before .loop .inv .0 .high, c .before .before .before .loop .inv .0 .low, c .before .before .before .before .before .before .before .before .pre .0 .1 .few, c .before .before .before .before .before .before .before .before .pre .0 .1 .room)
-
-shared-slice-read-join-key-2 : tie.Need-shared-slice-read-join-key-2 Inv-loop μ-loop
-shared-slice-read-join-key-2 c = omega (arith, c .before .before .before .before .loop .inv .0 .high, c .before .before .before .before .loop .inv .0 .low, c .before .before .before .before .before .before .before .before .before .pre .0 .1 .few, c .before .before .before .before .before .before .before .before .before .pre .0 .1 .room)
-
-join-key-requires : tie.Need-join-key-requires Inv-loop μ-loop
-join-key-requires c κs = (record { rows-ready = c .before .before .before .before .before .before .before .before .before .pre .0 .0 .rows-ready; known = c .before .before .before .before .loop .inv .1 }, (c .before .before .before .before .before .before .before .before .before .pre .0 .1 .codes _ (omega (arith, c .before .before .before .before .loop .inv .0 .high)), (c .before .before .before .before .before .before .before .before .before .pre .0 .1 .codes _ (omega (arith, c .before .before .before .before .loop .inv .0 .high)), omega (arith, c .before .before .before .before .loop .inv .0 .high, c .before .before .before .before .before .before .before .before .before .pre .0 .1 .few))))
-
-mul-tree : tie.Need-mul-tree Inv-loop μ-loop
-mul-tree c = omega (arith, c .before .before .before .before .before .loop .inv .0 .high, c .before .before .before .before .before .loop .inv .0 .low, c .before .before .before .before .before .before .before .before .before .before .pre .0 .1 .few, c .before .before .before .before .before .before .before .before .before .before .pre .0 .1 .room)
-
-element-write-tree : tie.Need-element-write-tree Inv-loop μ-loop
-element-write-tree c = omega (arith, c .before .before .before .before .before .loop .inv .0 .high, c .before .before .before .before .before .loop .inv .0 .low, c .before .before .before .before .before .before .before .before .before .before .pre .0 .1 .few, c .before .before .before .before .before .before .before .before .before .before .pre .0 .1 .room)
+renew-requires : tie.Need-renew-requires Inv-loop μ-loop
+renew-requires c κs = keying-ready _ _ _ _ _ _ _ _ _ _ _ (c .before .before .before .before .before .before .before .before .before .before .before .pre) _ _ _ _ _ (c .before .before .before .before .loop .inv) (c .before .before .before .loop-test .taken)
 
 add-next : tie.Need-add-next Inv-loop μ-loop
-add-next c = omega (arith, c .before .before .before .before .before .loop .inv .0 .high, c .before .before .before .before .before .loop .inv .0 .low, c .before .before .before .before .before .before .before .before .before .before .pre .0 .1 .few, c .before .before .before .before .before .before .before .before .before .before .pre .0 .1 .room)
+add-next c = omega (arith, c .before .before .before .before .before .loop .inv .high, c .before .before .before .before .before .before .before .before .before .before .before .before .pre .codes-ready .few)
 
 loop-less : tie.Need-loop-less Inv-loop μ-loop
 loop-less c = omega (arith, c .before .before .before .before .loop-test .taken)
 
 loop-again : tie.Need-loop-again Inv-loop μ-loop
-loop-again c = (keying-more _ _ _ _ _ _ _ _ (c .before .before .before .before .before .loop .inv .0) _ (c .before .before .before .before .loop-test .taken) (c .join-key .ensures .is), c .join-key .ensures .known)
+loop-again c = keying-more _ _ _ _ _ _ _ _ _ _ _ (c .before .before .before .before .before .before .before .before .before .before .before .before .pre) _ _ _ _ _ (c .before .before .before .before .before .loop .inv) (c .before .before .before .before .loop-test .taken) _ _ _ _ (c .renew .ensures)
 
 returns : tie.Need-returns Inv-loop μ-loop
-returns c = record { known = c .before .loop .inv .1; is = keying-end _ _ _ _ _ _ _ _ (c .before .loop .inv .0) (c .loop-test .left) }
+returns c = keying-end _ _ _ _ _ _ _ _ _ _ _ (c .before .before .before .before .before .before .before .before .pre) _ _ _ _ _ (c .before .loop .inv) (c .loop-test .left)
 
 pub fill-keys-spec : {M : Type 1} → statement M
 fill-keys-spec =
@@ -61,15 +41,8 @@ fill-keys-spec =
     Inv-loop
     μ-loop
     loop-holds
-    sub-at
-    add-leaf
-    mul-join-key
-    shared-slice-read-join-key
-    mul-join-key-2
-    shared-slice-read-join-key-2
-    join-key-requires
-    mul-tree
-    element-write-tree
+    sub-renew
+    renew-requires
     add-next
     loop-less
     loop-again

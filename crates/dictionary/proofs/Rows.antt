@@ -1,8 +1,9 @@
 -- The rows of a file that passes the checks, once their places are in a table. Assumes nothing.
 use mathlib.Core.Path.{_≡_, sym, ap, _∙_}
 use mathlib.Core.Logic.{⊎-elim}
-use mathlib.Core.List.{List, [], _++_}
+use mathlib.Core.List.{List, [], _∷_, _++_}
 use Prim.Native.Nat.{ℕ, _≤_, _<_}
+use native.Mathlib.Decide.{decLt}
 use native.Mathlib.Omega.{arith}
 use lib.ListN.{length, length-append, length-drop, length-take, getD, take, drop, List·getD-eq-default}
 use lib.Seq.{getD-take, take-at, drop-at}
@@ -20,6 +21,7 @@ use Rattle.token_pair.specs.Pair.{Distinct}
 use Rattle.fnv.specs.Fnv.{rowHash}
 use Rattle.clashes.specs.Clashes.{firstClash, hashes}
 use Rattle.clashes.proofs.Laws.{clash-within, clash-none-rows}
+use Rattle.search_area.specs.Area.{Whole}
 use Rattle.search_fill.specs.Filled.{Fillable}
 use Rattle.theory.proofs.Lists.{lt-or-ge}
 use Rattle.dictionary.specs.Build.{sameHash}
@@ -73,6 +75,29 @@ module _ (file : List ℕ) (n : ℕ) (passed : checkOf file ≡ Rows n) where
         (λ h. row-none file table n c h ∙ sym (List·getD-eq-default (rows file) [] {n = c} (let e = checked .count in omega arith)))
         (lt-or-ge c n)
 
+    -- the row of a byte
+    byte-row : (b : ℕ) → Dec (b < 256) → ℕ
+    byte-row b (yes h) = checked .byte-row b h .row
+    byte-row b (no _) = 0
+
+    byte-below : (b : ℕ) → b < 256 → (d : Dec (b < 256)) → byte-row b d < n
+    unfolding byte-row
+    byte-below b _ (yes h) = omega (arith, checked .count, checked .byte-row b h .below)
+    byte-below b h (no k) = absurd (k h)
+
+    byte-is : (b : ℕ) → b < 256 → (d : Dec (b < 256)) → row file table n (byte-row b d) ≡ b ∷ []
+    unfolding byte-row
+    byte-is b _ (yes h) = let r = checked .byte-row b h in row-read (r .row) ∙ r .is
+    byte-is b h (no k) = absurd (k h)
+
+    whole : Whole (row file table n) n
+    whole = record {
+      byte = λ b. byte-row b (decLt b 256);
+      byte-below = λ b h. byte-below b h (decLt b 256);
+      byte-is = λ b h. byte-is b h (decLt b 256);
+      short = λ c h. let f = places-ready .short c h in omega (arith, ap length (row-read c));
+    }
+
     module _ (factor : ℕ) where
       hash-is : hashes file table n factor ≡ (λ i. rowHash (getD (rows file) i []) factor)
       hash-is = λ k i. rowHash (row-read i k) factor
@@ -94,6 +119,6 @@ module _ (file : List ℕ) (n : ℕ) (passed : checkOf file ≡ Rows n) where
         pub fillable : Fillable (row file table n) n
         fillable = record {
           filled = λ c h. let f = places-ready .filled c h in omega (arith, ap length (row-read c));
-          short = λ c h. let f = places-ready .short c h in omega (arith, ap length (row-read c));
+          whole = whole;
           distinct = λ c d hc hd e. clash-none-rows file table n factor no-clash c d hc hd e;
         }

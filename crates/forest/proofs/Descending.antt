@@ -82,3 +82,21 @@ module _ (R : ℕ → List ℕ) (n : ℕ) (half : List ℕ) (from len : ℕ) (te
 
   pub descend-end : (best size k : ℕ) → k ≤ length text → Descending R n half from len text best size k → length text ≤ k → Descent R n half from len text best size
   descend-end best size k hk D l = descend-stop best size k (drop k text) none 0 hk D (search-empty R n half best size (drop k text) 0 (omega (arith, length-drop k text))) refl refl
+
+-- the descent from no row: to the shortest row that begins the text, and on from there
+module _ (R : ℕ → List ℕ) (n : ℕ) (half text : List ℕ) (r l : ℕ) (C : ChildIs R n half none 0 text r l) where
+  pub root-none : r ≡ none → Descent R n half none 0 text none 0
+  root-none e = descend-stop R n half none 0 text none 0 0 text r l (omega arith) (descend-start R n half none 0 text) C refl e
+
+  pub root-some : (ne : r ≡ none → ⊥) (r' l' : ℕ) → Descent R n half r l (drop l text) r' l' → Descent R n half none 0 text r' l'
+  root-some ne r' l' D =
+      let s : Step n 0 (length text) r l = ⊎-elim (λ z. absurd (ne z)) (λ z. z) (C .bound) in
+      record {
+        bound = inr (⊎-elim (λ z. let b = s .below in let e = z .0 in let f = z .1 in let g = s .longer in (omega arith, omega arith)) (λ z. let g = z .1 in (z .0, omega arith)) (D .bound));
+        room = omega (arith, D .room, length-drop l text, s .fits);
+        longest = λ S a.
+            let c = C .sound ne S a in
+            let t = tail R n half S (a .index) none text r (c .0) in
+            let k : length (R r) - length (R none) ≡ l = omega (arith, c .1, ap length (a .index .forest .root)) in
+            rw (t .split ∙ ap (λ (j : ℕ). R r ++ drop j text) k) (D .longest S (record { index = a .index; known = inr (c .0 .in-K); size = c .1 }));
+      }

@@ -31,5 +31,6 @@ cleared-none R n half S root N void = record {
   bytes = λ d s. absurd (void d s);
   listed = λ d s. absurd (void d s);
   marks = λ d s. absurd (void d s);
+  single = λ d s. absurd (void d s);
   only = λ h w l m. absurd (let z : Mem w [] = rw (head-none half h (omega arith), walk-out n (cleared half) n none (omega arith)) at m in z);
 }

@@ -1,9 +1,9 @@
 -- Insertion keeps the half in order. Assumes nothing.
 use mathlib.Core.Path.{_≡_, refl, sym, ap, _∙_}
-use mathlib.Core.List.{List}
+use mathlib.Core.List.{List, [], _∷_}
 use mathlib.Core.Logic.{_⊎_, inl, inr, ⊎-elim}
 use mathlib.Core.Bool.{Bool, true, false}
-use Prim.Native.Nat.{ℕ, zero, suc, _+_, _%_, _≤_, _<_}
+use Prim.Native.Nat.{ℕ, zero, suc, _+_, _-_, _%_, _≤_, _<_}
 use native.Mathlib.Decide.{ℕ-discrete, decLt}
 use native.Mathlib.Omega.{arith}
 use lib.ListN.{length, getD}
@@ -13,16 +13,22 @@ use Rattle.placed_rows.specs.Rows.{none}
 use Rattle.placed_rows.specs.Texts.{Begins}
 use Rattle.placed_rows.proofs.Beginning.{true-false, begins-length, same-length}
 use Rattle.placed_rows.specs.Longest.{Known, Longest, Prefix}
-use Rattle.forest.specs.Words.{Forest, word, row-of, bucketOf, walk, Mem, In, count, byteOf, home, wordOf, Entry, Indexed, childKey, marksFrom}
+use Rattle.forest.specs.Words.{Forest, word, tagAt, row-of, bucketOf, walk, Mem, In, count, byteOf, home, wordOf, Entry, Indexed, childKey, marksFrom}
 use Rattle.forest.specs.Lookups.{Descent}
 use Rattle.forest.specs.Growth.{placeOf, pushed, with-row, Fresh, Inserted}
 use Rattle.marks.specs.Marks.{marked, Marks}
-use Rattle.forest.proofs.Packing.{word-row, bucket-small, key-small}
+use Rattle.forest.proofs.Packing.{word-row, bucket-small, bucket-root, bucket-row, key-small}
 use Rattle.forest.proofs.Marking.{length-marked, marked-indexed}
+use Rattle.forest.proofs.NoChild.{filled}
 use Rattle.forest.proofs.Walking.{walk-zero, walk-more, met, meet-first, meet-next, count-le}
 use Rattle.forest.proofs.Joining.{with-in, with-old, with-new, count-more}
 use Rattle.forest.proofs.Pushing.{Place, place-in, place-out, length-put, put-at, put-other, marks-keep}
 use Rattle.forest.proofs.Passing.{still-met, no-more, from-w}
+
+one-byte : (t : List ℕ) → length t ≡ 1 → t ≡ getD t 0 0 ∷ []
+one-byte [] e = absurd (omega arith)
+one-byte (x ∷ []) e = refl
+one-byte (x ∷ y ∷ t) e = absurd (omega arith)
 
 -- prefixes, with that of c
 abbrev par-with : (ℕ → ℕ) → ℕ → ℕ → ℕ → ℕ
@@ -111,7 +117,7 @@ module _ (R : ℕ → List ℕ) (n : ℕ) (half : List ℕ) (S : ℕ → Bool) (
   B = bucketOf p (getD (R c) (length (R p)) 0)
 
   abbrev W : ℕ
-  W = word c p (length (R c))
+  W = word c (tagAt (R c) (length (R p))) (length (R c) - length (R p))
 
   -- the place in the bucket, the word that stands first, and the half with one word more
   abbrev at : ℕ
@@ -130,7 +136,7 @@ module _ (R : ℕ → List ℕ) (n : ℕ) (half : List ℕ) (S : ℕ → Bool) (
   H = bucket-small p (getD (R c) (length (R p)) 0) Q
 
   W-row : W % 8192 ≡ c
-  W-row = let z = C in word-row c p (length (R c)) (omega arith)
+  W-row = let z = C in word-row c _ (length (R c) - length (R p)) (omega arith)
 
   -- what a bucket has: words of rows of S, of which c is none
   abbrev Old : ℕ → ℕ → Type 0
@@ -143,7 +149,7 @@ module _ (R : ℕ → List ℕ) (n : ℕ) (half : List ℕ) (S : ℕ → Bool) (
   old-row g v E =
       let b = I .below (E .row) (E .in-S) in
       let f = I .few in
-      ap (λ (z : ℕ). row-of z) (E .is) ∙ word-row (E .row) (I .par (E .row)) (length (R (E .row))) (omega arith)
+      ap (λ (z : ℕ). row-of z) (E .is) ∙ word-row (E .row) _ _ (omega arith)
 
   not-c : (g v : ℕ) → Old g v → v % 8192 ≡ c → ⊥
   not-c g v E e = not-old R n half S I c p A F L (E .row) (E .in-S) (sym (old-row g v E) ∙ e)
@@ -179,6 +185,63 @@ module _ (R : ℕ → List ℕ) (n : ℕ) (half : List ℕ) (S : ℕ → Bool) (
 
   head-out : n ≤ first % 8192 → getD half' B 0 ≡ W
   head-out l = ap (λ (i : ℕ). getD half' i 0) (sym (place-out half n B l)) ∙ put-at half at c W place
+
+  -- a row of one byte stays first in its bucket
+  first-kept : (d : ℕ) → In S d → length (R d) ≡ 1 → getD half' (home R (I .par) d) 0 ≡ wordOf R (I .par) d
+  first-kept d s h = head-other g (bucket-small (I .par d) (byteOf R (I .par) d) (I .bytes d s)) (λ e. apart e (decLt (first % 8192) n)) ∙ stands
+    where
+      g : ℕ
+      g = home R (I .par) d
+
+      stands : getD half g 0 ≡ wordOf R (I .par) d
+      stands = I .single d s h
+
+      apart : g ≡ at → Dec (first % 8192 < n) → ⊥
+      apart e (yes l) = let z = place-in half n B l in let b = bucket-small (I .par d) (byteOf R (I .par) d) (I .bytes d s) in omega arith
+      apart e (no l) =
+          let z = place-out half n B (omega arith) in
+          let b = I .below d s in
+          let f = I .few in
+          let v : first ≡ wordOf R (I .par) d = ap (λ (i : ℕ). getD half i 0) (sym (e ∙ z)) ∙ stands in
+          let r : first % 8192 ≡ d = ap (λ (i : ℕ). row-of i) v ∙ word-row d _ _ (omega arith) in
+          omega arith
+
+  -- a new row of one byte finds its bucket empty: a row there would be that byte too
+  module _ (one : length (R c) ≡ 1) where
+    at-root : p ≡ none
+    at-root = ⊎-elim (λ e. e) (λ s. absurd (omega (arith, filled R (I .par) (In S) (I .forest) p s, shorter R n half S I c p A F L))) (L .known)
+
+    root-empty : (q : ℕ) → q ≡ none → length (R q) ≡ 0
+    root-empty q e = ap (λ (i : ℕ). length (R i)) e ∙ ap length (I .forest .root)
+
+    same-row : (E : Old B first) → R (E .row) ≡ R c
+    same-row E = go (ℕ-discrete (I .par (E .row)) none)
+      where
+        d : ℕ
+        d = E .row
+
+        k : length (R p) ≡ 0
+        k = root-empty p at-root
+
+        own : B ≡ 4096 + getD (R c) 0 0
+        own = bucket-root p (getD (R c) (length (R p)) 0) at-root ∙ ap (λ (i : ℕ). 4096 + getD (R c) i 0) k
+
+        go : Dec (I .par d ≡ none) → R d ≡ R c
+        go (no e) = absurd (omega (arith, own, E .home, bucket-row (I .par d) (byteOf R (I .par) d) e))
+        go (yes e) =
+            let z = root-empty (I .par d) e in
+            let f = filled R (I .par) (In S) (I .forest) d (E .in-S) in
+            let g = F .rising d (E .in-S) in
+            let b : 4096 + byteOf R (I .par) d ≡ 4096 + getD (R c) 0 0 = sym (bucket-root (I .par d) (byteOf R (I .par) d) e) ∙ E .home ∙ own in
+            let y : getD (R d) 0 0 ≡ getD (R c) 0 0 = sym (ap (λ (i : ℕ). getD (R d) i 0) z) ∙ omega arith in
+            one-byte (R d) (omega arith) ∙ ap (λ (x : ℕ). x ∷ []) y ∙ sym (one-byte (R c) one)
+
+    first-new : getD half' B 0 ≡ W
+    first-new = go (decLt (first % 8192) n)
+      where
+        go : Dec (first % 8192 < n) → getD half' B 0 ≡ W
+        go (yes l) = let E = old-first l in absurd (F .distinct (E .row) (E .in-S) (same-row E))
+        go (no l) = head-out (omega arith)
 
   room : count S n < n
   room = let z = count-more S c n (F .below) (F .new) in let w = count-le (with-row S c) n in omega arith
@@ -275,9 +338,13 @@ module _ (R : ℕ → List ℕ) (n : ℕ) (half : List ℕ) (S : ℕ → Bool) (
     bytes = λ d s. ⊎-elim (small d) (λ t. rw (kept d t) (I .bytes d t)) (with-in S c d s);
     listed = λ d s. rw (count-more S c n (F .below) (F .new)) (⊎-elim (new d) (still d) (with-in S c d s));
     marks = λ d s. marks-keep half at c W place (childKey (parents d) (byteOf R parents d)) (key-small (parents d) (byteOf R parents d)) ∙ ⊎-elim (key d) (λ t. rw (kept d t) (I .marks d t)) (with-in S c d s);
+    single = λ d s. ⊎-elim (lone d) (λ t h. rw (kept d t) (first-kept d t h)) (with-in S c d s);
     only = only-at;
   }
     where
+      lone : (d : ℕ) → d ≡ c → length (R d) ≡ 1 → getD half' (home R parents d) 0 ≡ wordOf R parents d
+      lone d e h = rw (e, par-new (I .par) c p) (first-new (rw e at h))
+
       small : (d : ℕ) → d ≡ c → byteOf R parents d < 256
       small d e = rw (e, par-new (I .par) c p) Q
 
@@ -305,14 +372,14 @@ module _ (R : ℕ → List ℕ) (n : ℕ) (half : List ℕ) (c : ℕ) (t : List 
   }
 
   -- the stores that the code makes, with what it has at hand
-  pub insert-done : (half₁ : List ℕ) (key b h w l : ℕ) → Marks half marksFrom key half₁ → key ≡ childKey p b → b ≡ getD t k 0 → b < 256 → h ≡ bucketOf p b → w ≡ word c p l → l ≡ length t
+  pub insert-done : (half₁ : List ℕ) (key b h w g l : ℕ) → Marks half marksFrom key half₁ → key ≡ childKey p b → b ≡ getD t k 0 → b < 256 → h ≡ bucketOf p b → w ≡ word c g l → g ≡ tagAt t k → l ≡ length t - k
       → Inserted R n half c (pushed half₁ n h c w)
-  insert-done half₁ key b h w l m ki bi bs hi wi li = record {
+  insert-done half₁ key b h w g l m ki bi bs hi wi gi li = record {
     kept = length-put half₁ (placeOf half₁ n h) c w ∙ length-marked half key half₁ m;
     index = λ S I F.
         let q = from-root S I in
         let y : b ≡ getD (R c) (length (R p)) 0 = bi ∙ (λ i. getD (e i) (q .1 i) 0) in
-        rw (hi ∙ ap (bucketOf p) y, wi ∙ ap (word c p) (li ∙ ap length e))
+        rw (hi ∙ ap (bucketOf p) y, wi ∙ (λ i. word c ((gi ∙ (λ j. tagAt (e j) (q .1 j))) i) ((li ∙ (λ j. length (e j) - q .1 j)) i)))
         (inserted R n half₁ S (marked-indexed R n half S key half₁ (omega (arith, ki, key-small p b)) m I) c p (omega (arith, length-marked half key half₁ m)) F (q .0) (omega arith)
         (ap (λ (i : ℕ). marked half₁ marksFrom i) (ap (λ (i : ℕ). childKey p i) (sym y) ∙ sym ki) ∙ m .new));
   }

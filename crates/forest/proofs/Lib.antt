@@ -11,3 +11,4 @@ pub mod Marking
 pub mod Inserting
 pub mod Emptying
 pub mod Places
+pub mod Bytes

@@ -41,6 +41,7 @@ module _ (n : ℕ) (half half' : List ℕ) (few : n ≤ 4096) (heads : (h : ℕ)
     bytes = I .bytes;
     listed = λ d s. rw (same-bucket (count S n) (home R (I .par) d) (bucket-small (I .par d) (byteOf R (I .par) d) (I .bytes d s))) (I .listed d s);
     marks = marks;
+    single = λ d s h. heads (home R (I .par) d) (bucket-small (I .par d) (byteOf R (I .par) d) (I .bytes d s)) ∙ I .single d s h;
     only = λ h w l e. I .only h w l (rw (same-bucket n h l) at e);
   }
 

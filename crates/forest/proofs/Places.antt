@@ -8,38 +8,36 @@ use lib.ListN.{length, length-drop, getD, take, drop}
 use lib.Seq.{getD-drop, drop-drop, take-all}
 use Rattle.marks.specs.Marks.{marked}
 use Rattle.placed_rows.specs.Rows.{none}
-use Rattle.forest.specs.Words.{row-of, len-of, bucketOf, childKey, marksFrom}
+use Rattle.forest.specs.Words.{row-of, bucketOf, childKey, marksFrom}
 use Rattle.forest.specs.Lookups.{OneLonger, ChildIs}
-use Rattle.forest.proofs.Searching.{search-one, search-unmarked, search-empty}
+use Rattle.forest.proofs.Walking.{walk-out}
+use Rattle.forest.proofs.Searching.{search-start, search-one, search-over, search-unmarked, search-empty}
 
 module _ (t : List ℕ) (k : ℕ) where
   -- the byte at the place
-  first-at : getD (drop k t) 0 0 ≡ getD t k 0
+  pub first-at : getD (drop k t) 0 0 ≡ getD t k 0
   first-at = let a : k + 0 ≡ k = omega arith in getD-drop k t 0 0 ∙ ap (λ (i : ℕ). getD t i 0) a
 
   -- the rest of the text, as the code cuts it out
   pub rest-at : take (length t - k) (drop k t) ≡ drop k t
   rest-at = take-all (length t - k) (drop k t) (omega (arith, length-drop k t))
 
-  -- its first byte
-  pub first-cut : getD (take (length t - k) (drop k t)) 0 0 ≡ getD t k 0
-  first-cut = ap (λ (l : List ℕ). getD l 0 0) rest-at ∙ first-at
-
   -- the rest from a later place on
   pub rest-later : (i : ℕ) → k ≤ i → drop i t ≡ drop (i - k) (drop k t)
   rest-later i h = let a : k + (i - k) ≡ i = omega arith in sym (drop-drop (i - k) k t ∙ ap (λ (j : ℕ). drop j t) a)
 
--- the first word of the bucket for the rest of the text
-pub head-at : (half : List ℕ) (p : ℕ) (t : List ℕ) (k h : ℕ) → h ≡ bucketOf p (getD t k 0) → getD half h 0 ≡ getD half (bucketOf p (getD (take (length t - k) (drop k t)) 0 0)) 0
-head-at half p t k h e = ap (λ (i : ℕ). getD half i 0) (e ∙ ap (λ (b : ℕ). bucketOf p b) (sym (first-cut t k)))
-
 module _ (R : ℕ → List ℕ) (n : ℕ) (half : List ℕ) (p len : ℕ) (t : List ℕ) (k : ℕ) where
   -- the first word of the bucket, where its row is one byte longer
-  pub one-at : (x h l : ℕ) → h ≡ bucketOf p (getD t k 0) → x ≡ getD half h 0 → OneLonger n x p len → n ≤ 4096 → getD t k 0 < 256 → k < length t → l ≡ len-of x → l < 65
+  pub one-at : (x h l : ℕ) → h ≡ bucketOf p (getD t k 0) → x ≡ getD half h 0 → OneLonger x (getD t k 0) → row-of x < n → n ≤ 4096 → getD t k 0 < 256 → k < length t → l ≡ len + 1
       → ChildIs R n half p len (drop k t) (row-of x) l
-  one-at x h l hi xi o N byte room lx l65 =
+  one-at x h l hi xi o b N byte room lx =
       let e = first-at t k in
-      search-one R n half p len (drop k t) x h l (hi ∙ ap (λ (b : ℕ). bucketOf p b) (sym e)) xi o N (omega (arith, e)) (omega (arith, length-drop k t)) lx l65
+      search-one R n half p len (drop k t) x h l (hi ∙ ap (λ (c : ℕ). bucketOf p c) (sym e)) xi (rw e o) b N (omega (arith, e)) (omega (arith, length-drop k t)) lx
+
+  -- an empty bucket
+  pub none-at : (x h l : ℕ) → h ≡ bucketOf p (getD t k 0) → x ≡ getD half h 0 → n ≤ row-of x → ChildIs R n half p len (drop k t) none l
+  none-at x h l hi xi b =
+      search-over R n half p len (drop k t) x n l (walk-out n half n x b) (rw (sym xi) at (search-start R n half p len (drop k t) h (hi ∙ ap (λ (c : ℕ). bucketOf p c) (sym (first-at t k)))))
 
   -- where prefix and next byte are not marked there is no child
   pub unmarked-at : (l : ℕ) → marked half marksFrom (childKey p (getD t k 0)) ≡ false → ChildIs R n half p len (drop k t) none l
@@ -47,7 +45,3 @@ module _ (R : ℕ → List ℕ) (n : ℕ) (half : List ℕ) (p len : ℕ) (t : L
 
   pub empty-at : (l : ℕ) → length t ≤ k → ChildIs R n half p len (drop k t) none l
   empty-at l h = search-empty R n half p len (drop k t) l (omega (arith, length-drop k t))
-
-  -- what the bucket has for the rest of the text
-  pub listed-at : (r l : ℕ) → ChildIs R n half p len (take (length t - k) (drop k t)) r l → ChildIs R n half p len (drop k t) r l
-  listed-at r l c = rw (rest-at t k) at c

@@ -12,11 +12,10 @@ use Rattle.placed_rows.specs.Texts.{Begins, begins}
 use Rattle.marks.specs.Marks.{marked}
 use Rattle.placed_rows.proofs.Beginning.{true-false, begins-split, begins-append, begins-length, beyond, cancel}
 use Rattle.placed_rows.specs.Longest.{Known}
-use Rattle.forest.specs.Words.{row-of, code, len-of, bucketOf, childKey, marksFrom, walk, Mem, In, count, byteOf, home, wordOf, Indexed}
+use Rattle.forest.specs.Words.{row-of, tag-of, more-of, bucketOf, childKey, marksFrom, walk, Mem, In, count, byteOf, home, wordOf, Indexed}
 use Rattle.forest.specs.Lookups.{OneLonger, WordOf, Fits, Child, At, ChildIs}
-use Rattle.forest.proofs.NoChild.{filled}
 use Rattle.forest.proofs.Fitting.{fits-one}
-use Rattle.forest.proofs.Packing.{word-row, word-len, bucket-small, bucket-byte, code-same}
+use Rattle.forest.proofs.Packing.{word-row, word-more, bucket-small, bucket-prefix}
 use Rattle.forest.proofs.Walking.{walk-left, walk-more, count-le}
 
 drop-to : (u t v : List ℕ) (k : ℕ) → t ≡ u ++ v → k ≡ length u → drop k t ≡ v
@@ -89,16 +88,11 @@ module _ (R : ℕ → List ℕ) (n : ℕ) (half : List ℕ) (S : ℕ → Bool) (
   small q (inl e) = inl e
   small q (inr s) = inr (let z = I .below q s in let f = I .few in omega arith)
 
-  pub same-prefix : Known (In S) p → (d : ℕ) → In S d → code (I .par d) ≡ code p → I .par d ≡ p
-  same-prefix k d s e = code-same (I .par d) p (small (I .par d) (I .forest .prefix d s .known)) (small p k) e
-
-  -- the byte that the bucket tells
-  pub told : Known (In S) p → (d : ℕ) → In S d → home R (I .par) d ≡ bucketOf p (getD rest 0 0) → code (I .par d) ≡ code p
-      → getD (R d) (length (R p)) 0 ≡ getD rest 0 0
+  -- the prefix that the bucket and the byte tell
+  pub told : Known (In S) p → (d : ℕ) → In S d → home R (I .par) d ≡ bucketOf p (getD rest 0 0) → byteOf R (I .par) d ≡ getD rest 0 0 → I .par d ≡ p
   told k d s h e =
-      let q = same-prefix k d s e in
-      let z = bucket-byte p (byteOf R (I .par) d) (getD rest 0 0) (ap (λ (i : ℕ). bucketOf i (byteOf R (I .par) d)) (sym q) ∙ h) in
-      ap (λ (i : ℕ). getD (R d) (length (R i)) 0) (sym q) ∙ z
+      bucket-prefix (I .par d) p (getD rest 0 0) (small (I .par d) (I .forest .prefix d s .known)) (small p k)
+      (ap (λ (b : ℕ). bucketOf (I .par d) b) (sym e) ∙ h)
 
 -- the walk has come to the word x with k steps left: the words that are left stand in the bucket, and a child is among them
 pub record Search (R : ℕ → List ℕ) (n : ℕ) (half : List ℕ) (p len : ℕ) (rest : List ℕ) (x k : ℕ) : Type 0 where
@@ -121,12 +115,13 @@ module _ (R : ℕ → List ℕ) (n : ℕ) (half : List ℕ) (p len : ℕ) (rest 
 
   -- a word of the bucket, as the test takes it
   tested : (S : ℕ → Bool) (a : At R n half S p len) (x d : ℕ) → In S d → x ≡ wordOf R (a .index .par) d
-      → (code (a .index .par d) ≡ code p → getD (R d) (length (R p)) 0 ≡ getD rest 0 0) → WordOf R n p len rest x d (a .index .par d)
+      → (byteOf R (a .index .par) d ≡ getD rest 0 0 → a .index .par d ≡ p) → WordOf R n p len rest x d (a .index .par d)
   tested S a x d s e t = record {
     below = a .index .below d s;
-    filled = filled R (a .index .par) (In S) (a .index .forest) d s;
+    shorter = a .index .forest .prefix d s .shorter;
+    byte = a .index .bytes d s;
     is = e;
-    told = λ c. rw (a .size) (t c);
+    told = λ c. (t c, ap (λ (q : ℕ). length (R q)) (t c) ∙ sym (a .size));
   }
 
   pub search-step : (x i k : ℕ) → i ≡ row-of x → 0 < k → i < n → Fits R n p len rest x false → Search R n half p len rest x k
@@ -139,17 +134,16 @@ module _ (R : ℕ → List ℕ) (n : ℕ) (half : List ℕ) (p len : ℕ) (rest 
       no : (S : ℕ → Bool) (a : At R n half S p len) (d : ℕ) → Child R (a .index .par) (In S) p rest d → wordOf R (a .index .par) d ≡ x → ⊥
       no S a d g z =
           let t = tail R n half S (a .index) p rest d g in
-          miss .no d (a .index .par d) (tested S a x d (g .in-K) (sym z) (λ _. t .byte)) refl
-          (record { under = ap (λ (q : ℕ). code q) (g .under); longer = let v = t .longer in let y = a .size in omega arith; on = rw (a .size) (t .on) })
+          miss .no d (a .index .par d) (tested S a x d (g .in-K) (sym z) (λ _. g .under)) refl
+          (record { under = g .under; from = ap (λ (q : ℕ). length (R q)) (g .under) ∙ sym (a .size); on = rw (a .size) (t .on) })
 
-  pub search-hit : (x i k l : ℕ) → i ≡ row-of x → 0 < k → i < n → n ≤ 4096 → l ≡ len-of x → l < 65 → getD rest 0 0 < 256 → Fits R n p len rest x true
+  pub search-hit : (x i k l : ℕ) → i ≡ row-of x → 0 < k → i < n → n ≤ 4096 → l ≡ len + more-of x → getD rest 0 0 < 256 → Fits R n p len rest x true
       → Search R n half p len rest x k → ChildIs R n half p len rest (row-of x) l
-  search-hit x i k l ix h b N lx l65 byte hit s = record {
+  search-hit x i k l ix h b N lx byte hit s = record {
     bound = inr (record {
       below = omega arith;
-      longer = let z = hit .longer refl in omega arith;
+      longer = omega arith;
       fits = let z = hit .room refl in omega arith;
-      short = omega arith;
     });
     sound = λ _ S a. found S a;
     complete = λ z. absurd (omega arith);
@@ -163,16 +157,17 @@ module _ (R : ℕ → List ℕ) (n : ℕ) (half : List ℕ) (p len : ℕ) (rest 
           let W = tested S a x d (m .in-S) (m .is) (told R n half S I p rest (a .known) d (m .in-S) (m .home)) in
           let y = hit .yes d (I .par d) W refl in
           let z = W .below in
-          let rd : row-of x ≡ d = ap (λ (v : ℕ). row-of v) (m .is) ∙ word-row d (I .par d) (length (R d)) (omega arith) in
-          let ld : l ≡ length (R d) = lx ∙ ap (λ (v : ℕ). len-of v) (m .is) ∙ word-len d (I .par d) (length (R d)) (omega arith) (W .filled) in
-          rw rd (is-child R n half S I p rest d (m .in-S) (same-prefix R n half S I p rest (a .known) d (m .in-S) (y .under)) (rw (a .size) at (y .on)), ld)
+          let f = W .shorter in
+          let rd : row-of x ≡ d = ap (λ (v : ℕ). row-of v) (m .is) ∙ word-row d _ _ (omega arith) in
+          let md : more-of x ≡ length (R d) - length (R (I .par d)) = ap (λ (v : ℕ). more-of v) (m .is) ∙ word-more d _ (length (R d) - length (R (I .par d))) (omega arith) (omega arith) in
+          let ld : l ≡ length (R d) = omega (arith, y .from) in
+          rw rd (is-child R n half S I p rest d (m .in-S) (y .under) (sym (ap (λ (v : ℕ). begins (drop v (R d)) rest) (a .size)) ∙ y .on), ld)
 
   -- the first word of the bucket, where its row is one byte longer
-  pub search-one : (x h l : ℕ) → h ≡ bucketOf p (getD rest 0 0) → x ≡ getD half h 0 → OneLonger n x p len → n ≤ 4096 → getD rest 0 0 < 256 → 0 < length rest → l ≡ len-of x → l < 65
+  pub search-one : (x h l : ℕ) → h ≡ bucketOf p (getD rest 0 0) → x ≡ getD half h 0 → OneLonger x (getD rest 0 0) → row-of x < n → n ≤ 4096 → getD rest 0 0 < 256 → 0 < length rest → l ≡ len + 1
       → ChildIs R n half p len rest (row-of x) l
-  search-one x h l hi xi o N byte room lx l65 =
-      let b = o .below in
-      search-hit x (row-of x) n l refl (omega arith) b N lx l65 byte (fits-one R n p len rest x N (o .under) (o .one) room) (rw (sym xi) at (search-start h hi))
+  search-one x h l hi xi o b N byte room lx =
+      search-hit x (row-of x) n l refl (omega arith) b N (omega (arith, o .one)) byte (fits-one R n p len rest x N (omega (arith, o .byte)) (o .one) room) (rw (sym xi) at (search-start h hi))
 
   nothing : (l : ℕ) → ((S : ℕ → Bool) (a : At R n half S p len) (d : ℕ) → Child R (a .index .par) (In S) p rest d → ⊥) → ChildIs R n half p len rest none l
   nothing l h = record { bound = inl refl; sound = λ z. absurd (z refl); complete = λ _. h }

@@ -1,5 +1,5 @@
 -- The arrangement of the front half of the search area: 4,352 heads of buckets, then 4,096 numbers of marks, one for each row, then 4,096 links. A bucket has the rows of one
--- hash of prefix and next byte. A head or a link holds a word, which packs a row, its prefix and its length, or
+-- hash of prefix and next byte. A head or a link holds a word, which packs a row, its tag and by how much it is longer than its prefix, or
 -- none. A prefix and a next byte that are not marked have no row. Assumes nothing.
 use mathlib.Core.Path.{_≡_}
 use mathlib.Core.List.{List, [], _∷_}
@@ -7,7 +7,7 @@ use mathlib.Core.Logic.{_⊎_}
 use mathlib.Core.Bool.{Bool, true, false}
 use Prim.Native.Nat.{ℕ, zero, suc, _+_, _-_, _*_, _/_, _%_, _≤_, _<_}
 use lib.ListN.{length, getD}
-use lib.Dec.{ltb}
+use lib.Dec.{ltb, eqb}
 use Rattle.marks.specs.Marks.{marked, bitKey}
 use Rattle.placed_rows.specs.Rows.{none}
 use Rattle.placed_rows.specs.Longest.{Prefix}
@@ -18,26 +18,27 @@ pub record Forest (R : ℕ → List ℕ) (par : ℕ → ℕ) (K : ℕ → Type 0
   pub distinct : (c d : ℕ) → K c → K d → R c ≡ R d → c ≡ d
   pub prefix : (d : ℕ) → K d → Prefix R K d (par d)
 
--- the word of row d, whose prefix is q, of l bytes
+-- the word of row d, with the tag t, which has m bytes beyond its prefix
 unfoldable pub word : ℕ → ℕ → ℕ → ℕ
-word d q l = d + 8192 * (q % 8192) + 67108864 * (l - 1)
+word d t m = d + 8192 * (t % 8192) + 67108864 * (m - 1)
 
--- what a word has of its row, of the row's prefix and of its length
+-- the tag of a row whose prefix has k bytes: the byte beyond them, and five bits of the next one
+unfoldable pub tagAt : List ℕ → ℕ → ℕ
+tagAt t k = getD t k 0 + 256 * (getD t (k + 1) 0 % 32)
+
+-- what a word has of its row, of the row's tag and of how much longer than its prefix it is
 abbrev pub row-of : ℕ → ℕ
 row-of w = w % 8192
 
-abbrev pub code : ℕ → ℕ
-code q = q % 8192
+abbrev pub tag-of : ℕ → ℕ
+tag-of w = w / 8192 % 8192
 
-abbrev pub code-of : ℕ → ℕ
-code-of w = w / 8192 % 8192
+abbrev pub more-of : ℕ → ℕ
+more-of w = w / 67108864 + 1
 
-abbrev pub len-of : ℕ → ℕ
-len-of w = w / 67108864 + 1
-
--- the bucket of the rows whose prefix is q, and whose next byte is b
+-- the bucket of the rows whose prefix is q, and whose next byte is b; rows without a prefix have buckets of their own
 unfoldable pub bucketOf : ℕ → ℕ → ℕ
-bucketOf q b = q * 21 % 4096 + b
+bucketOf q b = elim (eqb q none) [ true ↦ 4096 + b | false ↦ (q * 31 + b) % 4096 ]
 
 -- the key under which they are marked, and where the marks begin: one bit, by the byte, of the prefix's own number
 unfoldable pub childKey : ℕ → ℕ → ℕ
@@ -71,7 +72,7 @@ abbrev pub home : (ℕ → List ℕ) → (ℕ → ℕ) → ℕ → ℕ
 home R par d = bucketOf (par d) (byteOf R par d)
 
 abbrev pub wordOf : (ℕ → List ℕ) → (ℕ → ℕ) → ℕ → ℕ
-wordOf R par d = word d (par d) (length (R d))
+wordOf R par d = word d (tagAt (R d) (length (R (par d)))) (length (R d) - length (R (par d)))
 
 -- w is the word of a row of S that belongs into bucket h
 pub record Entry (R : ℕ → List ℕ) (par : ℕ → ℕ) (S : ℕ → Bool) (h w : ℕ) : Type 0 where
@@ -80,7 +81,7 @@ pub record Entry (R : ℕ → List ℕ) (par : ℕ → ℕ) (S : ℕ → Bool) (
   pub is : w ≡ wordOf R par row
   pub home : home R par row ≡ h
 
--- the half lists the rows of S: each is marked and stands in its bucket, within as many steps as S has rows, and no other word stands in a bucket
+-- the half lists the rows of S: each is marked and stands in its bucket, within as many steps as S has rows; a row of one byte stands first; and no other word stands in a bucket
 pub record Indexed (R : ℕ → List ℕ) (n : ℕ) (half : List ℕ) (S : ℕ → Bool) : Type 0 where
   pub par : ℕ → ℕ
   pub forest : Forest R par (In S)
@@ -89,4 +90,5 @@ pub record Indexed (R : ℕ → List ℕ) (n : ℕ) (half : List ℕ) (S : ℕ �
   pub bytes : (d : ℕ) → In S d → byteOf R par d < 256
   pub listed : (d : ℕ) → In S d → Mem (wordOf R par d) (walk n half (count S n) (getD half (home R par d) 0))
   pub marks : (d : ℕ) → In S d → marked half marksFrom (childKey (par d) (byteOf R par d)) ≡ true
+  pub single : (d : ℕ) → In S d → length (R d) ≡ 1 → getD half (home R par d) 0 ≡ wordOf R par d
   pub only : (h w : ℕ) → h < 4352 → Mem w (walk n half n (getD half h 0)) → Entry R par S h w

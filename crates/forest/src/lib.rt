@@ -1,13 +1,14 @@
 // The front half of the search area: the rows of a phrase file as a forest under "next shorter prefix".
 ghost use mathlib.Core.Path.{_≡_};
 ghost use mathlib.Core.Bool.{true};
-ghost use Prim.Native.Nat.{_%_, _<_, _≤_};
+ghost use Prim.Native.Nat.{_+_, _-_, _%_, _<_, _≤_};
+ghost use mathlib.Core.Logic.{_⊎_};
 ghost use lib.ListN.{length, getD, drop};
 ghost use Rattle.placed_rows.specs.Rows.{none, row, Placed};
 ghost use Rattle.placed_rows.specs.Texts.{Small};
 ghost use Rattle.marks.specs.Marks.{marked};
-ghost use Rattle.forest.specs.Words.{word, row-of, len-of, bucketOf, childKey, marksFrom};
-ghost use Rattle.forest.specs.Lookups.{Fits, OneLonger, ChildIs, Descent};
+ghost use Rattle.forest.specs.Words.{word, tagAt, row-of, more-of, bucketOf, childKey, marksFrom};
+ghost use Rattle.forest.specs.Lookups.{Fits, OneLonger, ChildIs, ByteRow, Descent};
 ghost use Rattle.forest.specs.Growth.{cleared, placeOf, pushed, Inserted};
 use placed_rows::Match;
 use placed_rows::NONE;
@@ -28,26 +29,46 @@ fn row_of(w: u32) -> usize
     (w % 8192) as usize
 }
 
-// The length that a word packs.
-fn len_of(w: u32) -> usize
-    ensures { λ r. ⌜ Small (len-of w) 65 r ⌝ }
+// By how many bytes the row that a word packs is longer than its prefix.
+fn more_of(w: u32) -> usize
+    ensures { λ r. ⌜ Small (more-of w) 65 r ⌝ }
 {
     (w / 67108864) as usize + 1
 }
 
-// The word of row c, whose prefix is p, of l bytes.
-fn word_of(c: usize, p: u32, l: usize) -> u32
-    requires { ⌜ (c < 4096) × ((0 < l) × (l ≤ 64)) ⌝ }
-    ensures { λ r. ⌜ r ≡ word c p l ⌝ }
+// The word of row c, with the tag t, which has `more` bytes beyond its prefix.
+fn word_of(c: usize, t: u32, more: usize) -> u32
+    requires { ⌜ (c < 4096) × ((0 < more) × (more ≤ 64)) ⌝ }
+    ensures { λ r. ⌜ r ≡ word c t more ⌝ }
 {
-    c as u32 + 8192 * (p % 8192) + 67108864 * ((l - 1) as u32)
+    c as u32 + 8192 * (t % 8192) + 67108864 * ((more - 1) as u32)
 }
 
-// The bucket of the rows whose prefix is p and whose next byte is b.
+// The tag of a row whose prefix has k bytes: the byte beyond them, and five bits of the next one.
+fn tag_of(bytes: &[u8], k: usize) -> u32
+    requires { ⌜ k < length (now bytes) ⌝ }
+    ensures { λ r. ⌜ r ≡ tagAt (now (bytes .entry)) k ⌝ }
+{
+    let next = bytes[k] as u32;
+    if bytes.len() - k == 1 {
+        return next;
+    }
+    next + 256 * (bytes[k + 1] as u32 % 32)
+}
+
+// The bucket of the rows whose prefix is row p and whose next byte is b.
 fn bucket(p: u32, b: u8) -> usize
+    requires { ⌜ p < 4096 ⌝ }
     ensures { λ r. ⌜ Small (bucketOf p b) 4352 r ⌝ }
 {
-    p as usize * 21 % 4096 + b as usize
+    (p as usize * 31 + b as usize) % 4096
+}
+
+// The bucket of the rows that have no prefix and begin with b.
+fn root_bucket(b: u8) -> usize
+    ensures { λ r. ⌜ Small (bucketOf none b) 4352 r ⌝ }
+{
+    4096 + b as usize
 }
 
 // The key under which the prefix p and the next byte b are marked.
@@ -65,40 +86,53 @@ fn may_have_child(half: &[u32], p: u32, b: u8) -> bool
     marks::is_bit_marked(half, MARKS, p as usize % 4096, b as usize % 32)
 }
 
-// Is w the word of a row whose prefix is p, of len bytes, and that goes on as rest does?
-fn fits(file: &[u8], places: &[u32], n: usize, w: u32, p: u32, len: usize, rest: &[u8]) -> bool
+// Is w the word of a row whose prefix is p, of len bytes, and that goes on as the text from at on does? The bucket is that of p and the byte there, so that
+// a word with this byte has p as its prefix.
+fn fits(
+    file: &[u8],
+    places: &[u32],
+    n: usize,
+    w: u32,
+    p: u32,
+    len: usize,
+    text: &[u8],
+    at: usize,
+) -> bool
     requires { ⌜ Placed (now file) (now places) n ⌝ }
-    requires { ⌜ (w % 8192 < n) × (0 < length (now rest)) ⌝ }
-    ensures { λ r. ⌜ Fits (row (now (file .entry)) (now (places .entry)) n) n p len (now (rest .entry)) w r ⌝ }
+    requires { ⌜ (w % 8192 < n) × (at < length (now text)) ⌝ }
+    ensures { λ r. ⌜ Fits (row (now (file .entry)) (now (places .entry)) n) n p len (drop at (now (text .entry))) w r ⌝ }
 {
-    if w / 8192 % 8192 != p % 8192 {
+    if w / 8192 % 256 != text[at] as u32 {
         return false;
     }
-    let l = len_of(w);
-    if l <= len {
+    let more = more_of(w);
+    if text.len() - at < more {
+        return false;
+    }
+    if more == 1 {
+        return true;
+    }
+    if w / 2097152 % 32 != text[at + 1] as u32 % 32 {
         return false;
     }
     let bytes = placed_rows::bytes_of(file, places, n, row_of(w));
-    if bytes.len() != l {
+    if bytes.len() < len {
         return false;
     }
-    placed_rows::begins_with(&bytes[len..], rest)
+    if bytes.len() - len != more {
+        return false;
+    }
+    placed_rows::begins_with(&bytes[len..], &text[at..])
 }
 
-// Is w the word of a row whose prefix is p, and that is one byte longer than p, of len bytes?
-fn is_one_longer(n: usize, w: u32, p: u32, len: usize) -> bool
-    ensures { λ r. ⌜ (r ≡ true → OneLonger n w p len) ⌝ }
+// Is w the word of a row that is one byte longer than its prefix, and is this byte b?
+fn is_one_longer(w: u32, b: u8) -> bool
+    ensures { λ r. ⌜ (r ≡ true → OneLonger w b) ⌝ }
 {
-    if n <= row_of(w) {
-        return false;
-    }
-    if w / 8192 % 8192 != p % 8192 {
-        return false;
-    }
-    len_of(w) - 1 == len
+    w / 8192 == b as u32
 }
 
-// The child of p, of len bytes, that goes on as rest does, among the rows of its bucket, whose first word is given, or NONE.
+// The child of p, of len bytes, that goes on as the text from at on does, among the rows of its bucket, whose first word is given, or NONE.
 fn listed_child(
     file: &[u8],
     places: &[u32],
@@ -107,12 +141,13 @@ fn listed_child(
     first: u32,
     p: u32,
     len: usize,
-    rest: &[u8],
+    text: &[u8],
+    at: usize,
 ) -> Match
     requires { ⌜ Placed (now file) (now places) n ⌝ }
-    requires { ⌜ (12544 ≤ length (now half)) × ((0 < length (now rest)) × (first ≡ getD (now half) (bucketOf p (getD (now rest) 0 0)) 0)) ⌝ }
-    requires { ⌜ getD (now rest) 0 0 < 256 ⌝ }
-    ensures { λ r. ⌜ ChildIs (row (now (file .entry)) (now (places .entry)) n) n (now (half .entry)) p len (now (rest .entry)) (r .row) (r .len) ⌝ }
+    requires { ⌜ (12544 ≤ length (now half)) × ((at < length (now text)) × (first ≡ getD (now half) (bucketOf p (getD (now text) at 0)) 0)) ⌝ }
+    requires { ⌜ (getD (now text) at 0 < 256) × (len + (length (now text) - at) < 18446744073709551616) ⌝ }
+    ensures { λ r. ⌜ ChildIs (row (now (file .entry)) (now (places .entry)) n) n (now (half .entry)) p len (drop at (now (text .entry))) (r .row) (r .len) ⌝ }
 {
     let mut w = first;
     let mut left = n;
@@ -121,10 +156,10 @@ fn listed_child(
         if n <= i {
             return no_match();
         }
-        if fits(file, places, n, w, p, len, rest) {
+        if fits(file, places, n, w, p, len, text, at) {
             return Match {
                 row: w % 8192,
-                len: len_of(w),
+                len: len + more_of(w),
             };
         }
         left -= 1;
@@ -135,7 +170,50 @@ fn listed_child(
     }
 }
 
-// The child of p, of len bytes, that goes on as the text from at on does, or NONE. A row that is one byte longer, and first in its bucket, is found by one load.
+// The same child. A row that is one byte longer, and first in its bucket, is told by its word alone.
+fn bucket_child(
+    file: &[u8],
+    places: &[u32],
+    n: usize,
+    half: &[u32],
+    first: u32,
+    p: u32,
+    len: usize,
+    text: &[u8],
+    at: usize,
+) -> Match
+    requires { ⌜ Placed (now file) (now places) n ⌝ }
+    requires { ⌜ (12544 ≤ length (now half)) × ((at < length (now text)) × (first ≡ getD (now half) (bucketOf p (getD (now text) at 0)) 0)) ⌝ }
+    requires { ⌜ len + (length (now text) - at) < 18446744073709551616 ⌝ }
+    ensures { λ r. ⌜ ChildIs (row (now (file .entry)) (now (places .entry)) n) n (now (half .entry)) p len (drop at (now (text .entry))) (r .row) (r .len) ⌝ }
+{
+    let next = text[at];
+    if n <= row_of(first) {
+        return no_match();
+    }
+    if is_one_longer(first, next) {
+        return Match {
+            row: first % 8192,
+            len: len + 1,
+        };
+    }
+    listed_child(file, places, n, half, first, p, len, text, at)
+}
+
+// The row that is the byte b alone, where there is one: it is first in its bucket.
+pub fn byte_row(file: &[u8], places: &[u32], n: usize, half: &[u32], b: u8) -> u32
+    requires { ⌜ Placed (now file) (now places) n ⌝ }
+    requires { ⌜ 12544 ≤ length (now half) ⌝ }
+    ensures { λ r. ⌜ ByteRow (row (now (file .entry)) (now (places .entry)) n) n (now (half .entry)) b r ⌝ }
+{
+    let w = half[root_bucket(b)];
+    if n <= row_of(w) {
+        return NONE;
+    }
+    w % 8192
+}
+
+// The child of row p, of len bytes, that goes on as the text from at on does, or NONE.
 pub fn child(
     file: &[u8],
     places: &[u32],
@@ -147,7 +225,8 @@ pub fn child(
     at: usize,
 ) -> Match
     requires { ⌜ Placed (now file) (now places) n ⌝ }
-    requires { ⌜ (12544 ≤ length (now half)) × (at ≤ length (now text)) ⌝ }
+    requires { ⌜ (p < n) × ((12544 ≤ length (now half)) × (at ≤ length (now text))) ⌝ }
+    requires { ⌜ len + (length (now text) - at) < 18446744073709551616 ⌝ }
     ensures { λ r. ⌜ ChildIs (row (now (file .entry)) (now (places .entry)) n) n (now (half .entry)) p len (drop at (now (text .entry))) (r .row) (r .len) ⌝ }
 {
     if text.len() <= at {
@@ -157,17 +236,20 @@ pub fn child(
     if !may_have_child(half, p, next) {
         return no_match();
     }
-    let w = half[bucket(p, next)];
-    if is_one_longer(n, w, p, len) {
-        return Match {
-            row: w % 8192,
-            len: len + 1,
-        };
-    }
-    listed_child(file, places, n, half, w, p, len, &text[at..])
+    bucket_child(
+        file,
+        places,
+        n,
+        half,
+        half[bucket(p, next)],
+        p,
+        len,
+        text,
+        at,
+    )
 }
 
-// The longest row that begins the bytes of from, len of them, followed by the text from at on, with its length.
+// The longest row that begins the bytes of row from, len of them, followed by the text from at on, with its length.
 pub fn descend(
     file: &[u8],
     places: &[u32],
@@ -179,14 +261,15 @@ pub fn descend(
     at: usize,
 ) -> Match
     requires { ⌜ Placed (now file) (now places) n ⌝ }
-    requires { ⌜ (12544 ≤ length (now half)) × (at ≤ length (now text)) ⌝ }
+    requires { ⌜ (from < n) × ((12544 ≤ length (now half)) × (at ≤ length (now text))) ⌝ }
+    requires { ⌜ len + (length (now text) - at) < 18446744073709551616 ⌝ }
     ensures { λ r. ⌜ Descent (row (now (file .entry)) (now (places .entry)) n) n (now (half .entry)) from len (drop at (now (text .entry))) (r .row) (r .len) ⌝ }
 {
     let mut best = from;
-    let mut size = len;
     let mut end = at;
     while end < text.len() {
         let next = text[end];
+        let size = len + (end - at);
         if !may_have_child(half, best, next) {
             return Match {
                 row: best,
@@ -194,13 +277,18 @@ pub fn descend(
             };
         }
         let w = half[bucket(best, next)];
-        if is_one_longer(n, w, best, size) {
+        if n <= row_of(w) {
+            return Match {
+                row: best,
+                len: size,
+            };
+        }
+        if is_one_longer(w, next) {
             best = w % 8192;
-            size += 1;
             end += 1;
             continue;
         }
-        let m = listed_child(file, places, n, half, w, best, size, &text[end..]);
+        let m = child(file, places, n, half, best, size, text, end);
         let r = m.row;
         if r == NONE {
             return Match {
@@ -210,12 +298,33 @@ pub fn descend(
         }
         end += m.len - size;
         best = r;
-        size = m.len;
     }
     Match {
         row: best,
-        len: size,
+        len: len + (end - at),
     }
+}
+
+// The shortest row that begins the text from at on, with its length, or NONE.
+fn root_child(file: &[u8], places: &[u32], n: usize, half: &[u32], text: &[u8], at: usize) -> Match
+    requires { ⌜ Placed (now file) (now places) n ⌝ }
+    requires { ⌜ (12544 ≤ length (now half)) × (at ≤ length (now text)) ⌝ }
+    ensures { λ r. ⌜ ChildIs (row (now (file .entry)) (now (places .entry)) n) n (now (half .entry)) none 0 (drop at (now (text .entry))) (r .row) (r .len) ⌝ }
+{
+    if text.len() <= at {
+        return no_match();
+    }
+    bucket_child(
+        file,
+        places,
+        n,
+        half,
+        half[root_bucket(text[at])],
+        NONE,
+        0,
+        text,
+        at,
+    )
 }
 
 // The longest row that begins the text from at on, with its length, or NONE and 0.
@@ -224,7 +333,13 @@ pub fn longest(file: &[u8], places: &[u32], n: usize, half: &[u32], text: &[u8],
     requires { ⌜ (12544 ≤ length (now half)) × (at ≤ length (now text)) ⌝ }
     ensures { λ r. ⌜ Descent (row (now (file .entry)) (now (places .entry)) n) n (now (half .entry)) none 0 (drop at (now (text .entry))) (r .row) (r .len) ⌝ }
 {
-    descend(file, places, n, half, NONE, 0, text, at)
+    let m = root_child(file, places, n, half, text, at);
+    let r = m.row;
+    if r == NONE {
+        return Match { row: NONE, len: 0 };
+    }
+    let l = m.len;
+    descend(file, places, n, half, r, l, text, at + l)
 }
 
 // Where a word comes into bucket h: at its head where the bucket is empty, else at the link of its first word.
@@ -249,6 +364,17 @@ fn push(half: &mut [u32], n: usize, h: usize, c: usize, w: u32)
     half[at] = w;
 }
 
+// The bucket of the rows whose prefix is p, a row or NONE, and whose next byte is b.
+fn bucket_of(p: u32, b: u8) -> usize
+    requires { ⌜ (p ≡ none) ⊎ (p < 4096) ⌝ }
+    ensures { λ r. ⌜ Small (bucketOf p b) 4352 r ⌝ }
+{
+    if p == NONE {
+        return root_bucket(b);
+    }
+    bucket(p, b)
+}
+
 // Row c goes into the half, under the longest row in it that begins row c.
 pub fn insert(file: &[u8], places: &[u32], n: usize, half: &mut [u32], c: usize)
     requires { ⌜ Placed (now file) (now places) n ⌝ }
@@ -261,9 +387,9 @@ pub fn insert(file: &[u8], places: &[u32], n: usize, half: &mut [u32], c: usize)
     let k = m.len;
     if k < bytes.len() {
         let next = bytes[k];
-        let h = bucket(p, next);
+        let h = bucket_of(p, next);
         marks::mark(half, MARKS, child_key(p, next));
-        push(half, n, h, c, word_of(c, p, bytes.len()));
+        push(half, n, h, c, word_of(c, tag_of(bytes, k), bytes.len() - k));
     }
 }
 

@@ -13,4 +13,4 @@ front-length area h = length-take-le 12544 area (omega arith)
 -- the numbers behind it do not count
 pub finds-same : (file places : List ℕ) (n : ℕ) (area area' : List ℕ) → take 12544 area ≡ take 12544 area' → Finds file places n area → Finds file places n area'
 unfolding Finds
-finds-same file places n area area' e F = rw e at F
+finds-same file places n area area' e F = (rw e at (F .0), F .1)

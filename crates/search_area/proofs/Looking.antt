@@ -15,13 +15,18 @@ use Rattle.forest.specs.Words.{In, Indexed}
 use Rattle.forest.specs.Lookups.{At, Descent}
 use Rattle.forest.proofs.NoChild.{filled}
 use Rattle.forest.proofs.Marking.{front-indexed}
-use Rattle.search_area.specs.Area.{allRows, Finds}
+use Rattle.search_area.specs.Area.{allRows, Whole, Finds}
 use Rattle.search_area.specs.Answers.{NextMatch, RowIs, Found}
 
 -- the rows are listed in the area itself, whose other numbers do not count
 pub front-index : (file places : List ℕ) (n : ℕ) (area : List ℕ) → Finds file places n area → Indexed (row file places n) n area (allRows n)
 unfolding Finds
-front-index file places n area F = front-indexed (row file places n) n area (allRows n) F
+front-index file places n area F = front-indexed (row file places n) n area (allRows n) (F .0)
+
+-- each byte has a row, and no row is longer than 64 bytes
+pub finds-whole : (file places : List ℕ) (n : ℕ) (area : List ℕ) → Finds file places n area → Whole (row file places n) n
+unfolding Finds
+finds-whole file places n area F = F .1
 
 -- the rows of the index are the rows below n
 pub below-in : (n d : ℕ) → d < n → In (allRows n) d

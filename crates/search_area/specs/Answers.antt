@@ -27,17 +27,20 @@ pub record Longer (R : ℕ → List ℕ) (n : ℕ) (t : List ℕ) (len r l : ℕ
   pub shortest : (r ≡ none → ⊥) → (d : ℕ) → d < n → Begins (R d) t → len < length (R d) → l ≤ length (R d)
   pub all : r ≡ none → (d : ℕ) → d < n → Begins (R d) t → length (R d) ≤ len
 
--- row r, of l bytes, is longer than len bytes, and no longer than m or 64
+-- row r, of l bytes, is longer than len bytes, and no longer than m
 pub record Within (n len m r l : ℕ) : Type 0 where
   pub below : r < n
   pub longer : len < l
   pub room : l ≤ m
-  pub short : l ≤ 64
 
 -- r is the shortest row that begins t and is longer than p, of len bytes, which begins it too, and l its length
 pub record LongerMatch (file places : List ℕ) (n : ℕ) (area t : List ℕ) (p len r l : ℕ) : Type 0 where
   pub bound : (r ≡ none) ⊎ Within n len (length t) r l
   pub next : Finds file places n area → Reached (row file places n) n t p len → Longer (row file places n) n t len r l
+
+-- r is the shortest row that begins t, and l its length, which is 1
+abbrev pub FirstMatch : List ℕ → List ℕ → ℕ → List ℕ → List ℕ → ℕ → ℕ → Type 0
+FirstMatch file places n area t r l = LongerMatch file places n area t none 0 r l × (l ≤ 1)
 
 -- r is the row with the bytes t, or none where no row has them
 pub record RowIs (R : ℕ → List ℕ) (n : ℕ) (t : List ℕ) (r : ℕ) : Type 0 where

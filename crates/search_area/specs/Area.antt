@@ -1,8 +1,9 @@
 -- The search area, of 16,384 numbers: its first 12,544 list the rows; the others are hints and marks of seams and pairs (crate token_pair). Assumes nothing.
-use mathlib.Core.List.{List}
+use mathlib.Core.Path.{_≡_}
+use mathlib.Core.List.{List, [], _∷_}
 use mathlib.Core.Bool.{Bool}
-use Prim.Native.Nat.{ℕ}
-use lib.ListN.{take}
+use Prim.Native.Nat.{ℕ, _≤_, _<_}
+use lib.ListN.{length, take}
 use lib.Dec.{ltb}
 use Rattle.placed_rows.specs.Rows.{row}
 use Rattle.forest.specs.Words.{Indexed}
@@ -18,6 +19,13 @@ Holds file places n area S = Indexed (row file places n) n (frontHalf area) S
 abbrev pub allRows : ℕ → ℕ → Bool
 allRows n d = ltb d n
 
--- the search area finds every row; it is this that build leaves and that the lookups need, and nothing above sees more of the arrangement
+-- each byte alone is a row, and no row is longer than 64 bytes
+pub record Whole (R : ℕ → List ℕ) (n : ℕ) : Type 0 where
+  pub byte : ℕ → ℕ
+  pub byte-below : (b : ℕ) → b < 256 → byte b < n
+  pub byte-is : (b : ℕ) → b < 256 → R (byte b) ≡ b ∷ []
+  pub short : (c : ℕ) → c < n → length (R c) ≤ 64
+
+-- the search area finds every row, and the rows are whole; it is this that build leaves and that the lookups need, and nothing above sees more of the arrangement
 unfoldable pub Finds : List ℕ → List ℕ → ℕ → List ℕ → Type 0
-Finds file places n area = Holds file places n area (allRows n)
+Finds file places n area = Holds file places n area (allRows n) × Whole (row file places n) n

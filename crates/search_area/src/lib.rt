@@ -3,7 +3,7 @@ ghost use mathlib.Core.Path.{_≡_};
 ghost use Prim.Native.Nat.{ℕ, _+_, _<_, _≤_};
 ghost use lib.ListN.{length, drop};
 ghost use Rattle.placed_rows.specs.Rows.{none, Placed};
-ghost use Rattle.search_area.specs.Answers.{NextMatch, LongerMatch, Found, Joined};
+ghost use Rattle.search_area.specs.Answers.{NextMatch, LongerMatch, FirstMatch, Found, Joined};
 use placed_rows::Match;
 use placed_rows::NONE;
 
@@ -23,7 +23,7 @@ pub fn next_match(
     forest::longest(file, places, n, area, text, at)
 }
 
-// The shortest row that begins the text from at on, with its length, or NONE.
+// The shortest row that begins the text from at on, with its length, or NONE: each byte is a row.
 pub fn first_match(
     file: &[u8],
     places: &[u32],
@@ -34,9 +34,15 @@ pub fn first_match(
 ) -> Match
     requires { ⌜ Placed (now file) (now places) n ⌝ }
     requires { ⌜ (16384 ≤ length (now area)) × (at ≤ length (now text)) ⌝ }
-    ensures { λ r. ⌜ LongerMatch (now (file .entry)) (now (places .entry)) n (now (area .entry)) (drop at (now (text .entry))) none 0 (r .row) (r .len) ⌝ }
+    ensures { λ r. ⌜ FirstMatch (now (file .entry)) (now (places .entry)) n (now (area .entry)) (drop at (now (text .entry))) (r .row) (r .len) ⌝ }
 {
-    forest::child(file, places, n, area, NONE, 0, text, at)
+    if text.len() <= at {
+        return Match { row: NONE, len: 0 };
+    }
+    Match {
+        row: forest::byte_row(file, places, n, area, text[at]),
+        len: 1,
+    }
 }
 
 // The shortest row that begins the text from at on and is longer than row, of len bytes, which begins it too, with its length, or NONE.

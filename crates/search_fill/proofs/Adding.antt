@@ -119,11 +119,14 @@ module _ (file places : List ℕ) (n : ℕ) where
   area-filled N area area' A I = record {
     area-length = I .area-length ∙ emptied-length area A;
     area-beyond = I .area-beyond ∙ emptied-beyond area A;
-    finds = λ G. holds-same area' (before R n (65 * 4096)) (allRows n) (every G)
-        (I .holds G (emptied-holds area A file places n (before R n 4096) N (λ d s. let q = before-is R n 4096 d s in let b = q .1 in let f = G .filled d (q .0) in omega arith)));
+    finds = λ G. (
+      holds-same area' (before R n (65 * 4096)) (allRows n) (every G)
+          (I .holds G (emptied-holds area A file places n (before R n 4096) N (λ d s. let q = before-is R n 4096 d s in let b = q .1 in let f = G .filled d (q .0) in omega arith))),
+      G .whole,
+    );
   }
     where
       every : Fillable R n → (d : ℕ) → before R n (65 * 4096) d ≡ allRows n d
       every G d = iff (before R n (65 * 4096) d) (allRows n d)
           (λ e. lt-ltb d n (before-is R n (65 * 4096) d e .0))
-          (λ e. let l = ltb-true d n e in let s = G .short d l in is-before R n (65 * 4096) d l (omega arith))
+          (λ e. let l = ltb-true d n e in let s = G .whole .short d l in is-before R n (65 * 4096) d l (omega arith))

@@ -1,16 +1,16 @@
 -- What fill leaves: a search area that finds every row, and the prefixes. Assumes nothing.
 use mathlib.Core.Path.{_≡_}
 use mathlib.Core.List.{List}
-use Prim.Native.Nat.{ℕ, _≤_, _<_}
+use Prim.Native.Nat.{ℕ, _<_}
 use lib.ListN.{length, getD, drop}
 use Rattle.placed_rows.specs.Rows.{row}
 use Rattle.placed_rows.specs.Longest.{Below, Prefix}
-use Rattle.search_area.specs.Area.{Finds}
+use Rattle.search_area.specs.Area.{Whole, Finds}
 
--- rows that can be filled in: each has 1 to 64 bytes, and no two have the same bytes
+-- rows that can be filled in: each byte has one, each has 1 to 64 bytes, and no two have the same bytes
 pub record Fillable (R : ℕ → List ℕ) (n : ℕ) : Type 0 where
   pub filled : (c : ℕ) → c < n → 0 < length (R c)
-  pub short : (c : ℕ) → c < n → length (R c) ≤ 64
+  pub whole : Whole R n
   pub distinct : (c d : ℕ) → c < n → d < n → R c ≡ R d → c ≡ d
 
 -- the search area area' finds every row, and its numbers from 12,544 on are those of area

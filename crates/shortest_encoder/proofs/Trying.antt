@@ -77,15 +77,15 @@ module _ (file places area : List ℕ) (n : ℕ) (text work : List ℕ) (i : ℕ
 
   -- row r, of l bytes, is met at the place after rows of up to len bytes
   module _ (p len r l : ℕ) (M : LongerMatch file places n area (drop i text) p len r l) (ne : r ≡ none → ⊥) where
-    pub met : Met n text work i len r l
-    met =
+    pub met : l ≤ 64 → Met n text work i len r l
+    met h =
         let w = within file places n area (drop i text) p len r l M ne in
         let s : i + l ≤ length text = let q = R .inside in omega (arith, w .room, length-drop i text) in
         record {
           below = w .below;
           narrow = let f = small in omega (arith, w .below);
           longer = w .longer;
-          short = w .short;
+          short = h;
           inside = s;
           few = codes-few l (omega (arith, w .longer)) s;
           most = let f = R .ready .few in omega (arith, codes-few l (omega (arith, w .longer)) s);
@@ -224,9 +224,16 @@ module _ (file places area : List ℕ) (n : ℕ) (text work : List ℕ) (i best 
     pub trying-stops : r ≡ none → EntryIs file places area n text work i best
     trying-stops z = done (λ lefts rights prefixes B. next lefts rights prefixes B .all z)
 
-    module _ (ne : r ≡ none → ⊥) (e : ℕ) (is : e ≡ entryOf (codesWith work (length text) i l) l r) where
+    -- no row has more than 64 bytes
+    pub trying-over : (r ≡ none → ⊥) → 64 < l → EntryIs file places area n text work i best
+    trying-over ne h = done (λ lefts rights prefixes B.
+        let w = within file places n area (drop i text) p len r l M ne in
+        let z = R .ready .places-ready .short r (w .below) in
+        absurd (omega (arith, next lefts rights prefixes B .is ne .1, ap length (R .ready .places-ready .rows-are r (w .below)))))
+
+    module _ (ne : r ≡ none → ⊥) (short : l ≤ 64) (e : ℕ) (is : e ≡ entryOf (codesWith work (length text) i l) l r) where
       m : Met n text work i len r l
-      m = met file places area n text work i R p len r l M ne
+      m = met file places area n text work i R p len r l M ne short
 
       -- the entry of the longer row is less: it makes as few codes
       replaced : e < best → Trying file places area n text work i e r l
@@ -281,8 +288,8 @@ module _ (file places area : List ℕ) (n : ℕ) (text work : List ℕ) (i : ℕ
         ));
   }
 
-  pub trying-first : (r ≡ none → ⊥) → (e : ℕ) → e ≡ entryOf (codesWith work (length text) i l) l r → Trying file places area n text work i e r l
-  trying-first ne e is =
-      let m = met file places area n text work i R none 0 r l M ne in
+  pub trying-first : (r ≡ none → ⊥) → l ≤ 64 → (e : ℕ) → e ≡ entryOf (codesWith work (length text) i l) l r → Trying file places area n text work i e r l
+  trying-first ne short e is =
+      let m = met file places area n text work i R none 0 r l M ne short in
       entered file places area n text work i R o 0 r l m e is (λ lefts rights prefixes B.
       best-first (row file places n) n (drop i text) (codesWith work (length text) i) (row-some file places area n text work i R) r l (first lefts rights prefixes B) (m .below) ne)

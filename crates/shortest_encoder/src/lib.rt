@@ -62,6 +62,10 @@ fn best_at(
         if longer.row == NONE {
             return best;
         }
+        if longer.len > 64 {
+            // Never on the tables of a build: no row is so long.
+            return best;
+        }
         row = longer.row;
         len = longer.len;
         let count = codes_behind(text, work, i + len) + 1;

@@ -1,12 +1,11 @@
--- The marks, the first word of the bucket, or the whole bucket. Assumes nothing.
-use mathlib.Core.Path.{refl, sym, ap, _∙_}
-use mathlib.Core.List.{List}
-use Prim.Native.Nat.{ℕ, _+_}
+-- The marks, and then the bucket. Assumes nothing.
+use mathlib.Core.Path.{sym, ap, _∙_}
+use Prim.Native.Nat.{ℕ}
 use native.Mathlib.Omega.{arith}
-use lib.ListN.{length, length-drop}
+use lib.ListN.{getD}
 use borrow.Author.Needs.{needs}
 use borrow.Author.Tests.{not-true}
-use Rattle.forest.proofs.Places.{rest-at, first-cut, head-at, one-at, unmarked-at, empty-at, listed-at}
+use Rattle.forest.proofs.Places.{unmarked-at, empty-at}
 use Rattle.forest.proofs.child.Statement.{statement}
 use Rattle.forest.proofs.child.Tie as tie
 
@@ -26,53 +25,26 @@ no-match-requires-2 : tie.Need-no-match-requires-2
 no-match-requires-2 c κs = search needs
 
 returns-2 : tie.Need-returns-2
-returns-2 c = rw (c .no-match2 .ensures) (unmarked-at _ _ _ _ _ (c .before .before .before .before .before .before .before .before .before .args .text .now) (c .before .before .before .before .before .before .before .before .before .args .at) _ (sym (c .before .before .may-have-child .ensures) ∙ not-true _ (c .before .if2 .taken)))
+returns-2 c =
+    let s = c .before .before .before .before .before .before .before .before .before in
+    rw (c .no-match2 .ensures) (unmarked-at _ _ _ _ _ (s .args .text .now) (s .args .at) _ (sym (c .before .before .may-have-child .ensures) ∙ not-true _ (c .before .if2 .taken)))
 
 bucket-requires : tie.Need-bucket-requires
-bucket-requires c κs = search needs
+bucket-requires c κs = let s = c .before .before .before .before .before .before .before .before in omega (arith, s .pre .1 .0 .0, s .pre .0 .few)
 
-mul-w : tie.Need-mul-w
-mul-w c = search needs
+mul-bucket-child : tie.Need-mul-bucket-child
+mul-bucket-child c = search needs
 
-shared-slice-read-w : tie.Need-shared-slice-read-w
-shared-slice-read-w c = search needs
+shared-slice-read-bucket-child : tie.Need-shared-slice-read-bucket-child
+shared-slice-read-bucket-child c = search needs
 
-is-one-longer-requires : tie.Need-is-one-longer-requires
-is-one-longer-requires c κs = search needs
-
-add-t21 : tie.Need-add-t21
-add-t21 c = let o = c .before .is-one-longer .ensures (c .if3 .taken) in let z = o .one in let y = o .short in omega arith
+bucket-child-requires : tie.Need-bucket-child-requires
+bucket-child-requires c κs =
+    let s = c .before .before .before .before .before .before .before .before .before .before in
+    (s .pre .0, ((s .pre .1 .0 .1 .0, (omega (arith, c .before .before .before .before .before .if1 .left), ap (λ (i : ℕ). getD (s .args .half .now) i 0) (c .before .bucket .ensures .is))), s .pre .1 .1))
 
 returns-3 : tie.Need-returns-3
-returns-3 c =
-    let s = c .before .before .before .before .before .before .before .before .before .before .before .before in
-    let h = c .before .before .before .bucket in
-    let o = c .before .is-one-longer .ensures (c .if3 .taken) in
-    one-at _ _ _ _ _ (s .args .text .now) (s .args .at) _ (h .result) (s .args .len + 1) (h .ensures .is) refl o (s .pre .0 .few)
-    (omega (arith, c .before .before .before .before .before .before .shared-slice-known5 .given (s .args .at)))
-    (omega (arith, c .before .before .before .before .before .before .before .if1 .left))
-    (let z = o .one in omega arith)
-    (let z = o .one in let y = o .short in omega arith)
-
-sub-listed-child : tie.Need-sub-listed-child
-sub-listed-child c = search needs
-
-part-listed-child-start : tie.Need-part-listed-child-start
-part-listed-child-start c = search needs
-
-part-listed-child-end : tie.Need-part-listed-child-end
-part-listed-child-end c = search needs
-
-listed-child-requires : tie.Need-listed-child-requires
-listed-child-requires c κs =
-    let s = c .before .before .before .before .before .before .before .before .before .before .before .before .before in
-    let text = s .args .text .now in
-    let at = s .args .at in
-    let e = ap (λ (z : List ℕ). length z) (rest-at text at) ∙ length-drop at text in
-    (s .pre .0, ((s .pre .1 .0, (omega (arith, e, c .before .before .before .before .before .before .before .before .if1 .left), head-at (s .args .half .now) (s .args .p) text at _ (c .before .before .before .before .bucket .ensures .is))), omega (arith, first-cut text at, c .before .before .before .before .before .before .before .shared-slice-known5 .given at)))
-
-returns-4 : tie.Need-returns-4
-returns-4 c = listed-at _ _ _ _ _ (c .before .before .before .before .before .before .before .before .before .before .before .before .before .before .args .text .now) (c .before .before .before .before .before .before .before .before .before .before .before .before .before .before .args .at) _ _ (c .listed-child .ensures)
+returns-3 c = c .bucket-child .ensures
 
 pub child-spec : {M : Type 1} → statement M
 child-spec =
@@ -85,13 +57,7 @@ child-spec =
     no-match-requires-2
     returns-2
     bucket-requires
-    mul-w
-    shared-slice-read-w
-    is-one-longer-requires
-    add-t21
-    returns-3
-    sub-listed-child
-    part-listed-child-start
-    part-listed-child-end
-    listed-child-requires
-    returns-4)
+    mul-bucket-child
+    shared-slice-read-bucket-child
+    bucket-child-requires
+    returns-3)

@@ -22,7 +22,7 @@ bytes-of-requires : tie.Need-bytes-of-requires
 bytes-of-requires c κs = search needs
 
 descend-requires : tie.Need-descend-requires
-descend-requires c κs = search needs
+descend-requires c κs = let s = c .before .before .before .before .before .before .before in (s .pre .0, ((s .pre .1 .1 .0, (omega (arith, s .pre .1 .0), omega arith)), search needs))
 
 add-if1 : tie.Need-add-if1
 add-if1 c = search needs

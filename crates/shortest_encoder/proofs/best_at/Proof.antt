@@ -3,7 +3,7 @@ use Prim.Native.Nat.{_-_}
 use lib.ListN.{length}
 use native.Mathlib.Omega.{arith}
 use borrow.Author.Needs.{needs}
-use Rattle.shortest_encoder.proofs.Trying.{Bytes, Met, met, Trying, trying-none, trying-first, trying-ends, trying-stops, trying-more}
+use Rattle.shortest_encoder.proofs.Trying.{Bytes, Met, met, Trying, trying-none, trying-first, trying-ends, trying-stops, trying-over, trying-more}
 use Rattle.shortest_encoder.proofs.best_at.Statement.{statement}
 use Rattle.shortest_encoder.proofs.best_at.Tie as tie
 
@@ -18,17 +18,17 @@ text-bytes c k = omega (arith, c .before .shared-slice-known4 .given k)
 
 -- what is known of the first row
 first-met : (c : tie.Else1 Inv-loop μ-loop) → Met (c .before .before .before .before .before .before .before .before .args .n) (c .before .before .before .before .before .before .before .before .args .text .now) (c .before .before .before .before .before .before .before .before .args .work .now) (c .before .before .before .before .before .before .before .before .args .i) 0 (c .before .before .first-match .result .row) (c .before .before .first-match .result .len)
-first-met c = met _ _ _ _ _ _ _ (c .before .before .before .before .before .before .before .before .pre) _ _ _ _ (c .before .before .first-match .ensures) (c .if1 .left)
+first-met c = met _ _ _ _ _ _ _ (c .before .before .before .before .before .before .before .before .pre) _ _ _ _ (c .before .before .first-match .ensures .0) (c .if1 .left) (omega (arith, c .before .before .first-match .ensures .1))
 
 -- and of a longer one
-longer-met : (c : tie.Else2 Inv-loop μ-loop) → Met (c .before .before .before .before .before .before .before .before .before .before .before .before .before .before .before .args .n) (c .before .before .before .before .before .before .before .before .before .before .before .before .before .before .before .args .text .now) (c .before .before .before .before .before .before .before .before .before .before .before .before .before .before .before .args .work .now) (c .before .before .before .before .before .before .before .before .before .before .before .before .before .before .before .args .i) (c .before .before .before .before .loop .len) (c .before .before .longer-match .result .row) (c .before .before .longer-match .result .len)
-longer-met c = met _ _ _ _ _ _ _ (c .before .before .before .before .loop .inv .ready) _ _ _ _ (c .before .before .longer-match .ensures) (c .if2 .left)
+longer-met : (c : tie.Else3 Inv-loop μ-loop) → Met (c .before .before .before .before .before .before .before .before .before .before .before .before .before .before .before .before .before .args .n) (c .before .before .before .before .before .before .before .before .before .before .before .before .before .before .before .before .before .args .text .now) (c .before .before .before .before .before .before .before .before .before .before .before .before .before .before .before .before .before .args .work .now) (c .before .before .before .before .before .before .before .before .before .before .before .before .before .before .before .before .before .args .i) (c .before .before .before .before .before .before .loop .len) (c .before .before .before .before .longer-match .result .row) (c .before .before .before .before .longer-match .result .len)
+longer-met c = met _ _ _ _ _ _ _ (c .before .before .before .before .before .before .loop .inv .ready) _ _ _ _ (c .before .before .before .before .longer-match .ensures) (c .before .before .if2 .left) (omega (arith, c .if3 .left))
 
 first-match-requires : tie.Need-first-match-requires Inv-loop μ-loop
 first-match-requires c κs = let r = c .before .before .before .before .before .pre in (r .ready .places-ready .placed, (r .ready .area-room, omega (arith, r .inside)))
 
 returns : tie.Need-returns Inv-loop μ-loop
-returns c = trying-none _ _ _ _ _ _ _ (c .before .before .before .before .before .before .before .before .pre) (text-bytes (c .before .before .before)) _ _ (c .before .before .first-match .ensures) (c .if1 .taken)
+returns c = trying-none _ _ _ _ _ _ _ (c .before .before .before .before .before .before .before .before .pre) (text-bytes (c .before .before .before)) _ _ (c .before .before .first-match .ensures .0) (c .if1 .taken)
 
 add-codes-behind : tie.Need-add-codes-behind Inv-loop μ-loop
 add-codes-behind c = omega (arith, first-met c .inside, c .before .before .before .before .before .before .before .before .pre .ready .few)
@@ -43,7 +43,7 @@ entry-of-requires : tie.Need-entry-of-requires Inv-loop μ-loop
 entry-of-requires c κs = let m = first-met (c .before) in (omega (arith, c .codes-behind .ensures, m .most), (omega (arith, m .longer), (m .short, m .narrow)))
 
 loop-holds : tie.Need-loop-holds Inv-loop μ-loop
-loop-holds c = trying-first _ _ _ _ _ _ _ (c .before .before .before .before .before .before .before .before .before .before .pre) (text-bytes (c .before .before .before .before .before)) _ _ (c .before .before .before .before .first-match .ensures) (c .before .before .if1 .left) _ (rw (c .before .codes-behind .ensures) at (c .entry-of .ensures))
+loop-holds c = trying-first _ _ _ _ _ _ _ (c .before .before .before .before .before .before .before .before .before .before .pre) (text-bytes (c .before .before .before .before .before)) _ _ (c .before .before .before .before .first-match .ensures .0) (c .before .before .if1 .left) (omega (arith, c .before .before .before .before .first-match .ensures .1)) _ (rw (c .before .codes-behind .ensures) at (c .entry-of .ensures))
 
 add-loop : tie.Need-add-loop Inv-loop μ-loop
 add-loop c = let t = c .loop .inv in omega (arith, t .inside, t .ready .ready .few)
@@ -54,11 +54,14 @@ longer-match-requires c κs = let t = c .before .loop .inv in (t .ready .ready .
 returns-2 : tie.Need-returns-2 Inv-loop μ-loop
 returns-2 c = trying-stops _ _ _ _ _ _ _ _ _ _ (c .before .before .before .before .loop .inv) _ _ (c .before .before .longer-match .ensures) (c .if2 .taken)
 
+returns-3 : tie.Need-returns-3 Inv-loop μ-loop
+returns-3 c = trying-over _ _ _ _ _ _ _ _ _ _ (c .before .before .before .before .before .before .loop .inv) _ _ (c .before .before .before .before .longer-match .ensures) (c .before .before .if2 .left) (omega (arith, c .if3 .taken))
+
 add-codes-behind-2 : tie.Need-add-codes-behind-2 Inv-loop μ-loop
-add-codes-behind-2 c = omega (arith, longer-met c .inside, c .before .before .before .before .loop .inv .ready .ready .few)
+add-codes-behind-2 c = omega (arith, longer-met c .inside, c .before .before .before .before .before .before .loop .inv .ready .ready .few)
 
 codes-behind-requires-2 : tie.Need-codes-behind-requires-2 Inv-loop μ-loop
-codes-behind-requires-2 c κs = c .before .before .before .before .loop .inv .ready .ready .room
+codes-behind-requires-2 c κs = c .before .before .before .before .before .before .loop .inv .ready .ready .room
 
 add-count : tie.Need-add-count Inv-loop μ-loop
 add-count c = omega (arith, c .codes-behind2 .ensures, longer-met (c .before) .most)
@@ -73,10 +76,10 @@ loop-less : tie.Need-loop-less Inv-loop μ-loop
 loop-less c = omega (arith, longer-met (c .before .before .before) .longer, longer-met (c .before .before .before) .inside)
 
 loop-again : tie.Need-loop-again Inv-loop μ-loop
-loop-again c = trying-more _ _ _ _ _ _ _ _ _ _ (c .before .before .before .before .before .before .before .loop .inv) _ _ (c .before .before .before .before .before .longer-match .ensures) (c .before .before .before .if2 .left) _ (rw (c .before .before .codes-behind2 .ensures) at (c .before .entry-of2 .ensures)) _ (c .lesser .ensures)
+loop-again c = trying-more _ _ _ _ _ _ _ _ _ _ (c .before .before .before .before .before .before .before .before .before .loop .inv) _ _ (c .before .before .before .before .before .before .before .longer-match .ensures) (c .before .before .before .before .before .if2 .left) (omega (arith, c .before .before .before .if3 .left)) _ (rw (c .before .before .codes-behind2 .ensures) at (c .before .entry-of2 .ensures)) _ (c .lesser .ensures)
 
-returns-3 : tie.Need-returns-3 Inv-loop μ-loop
-returns-3 c = trying-ends _ _ _ _ _ _ _ _ _ _ (c .before .loop .inv) (omega (arith, c .loop-test .left))
+returns-4 : tie.Need-returns-4 Inv-loop μ-loop
+returns-4 c = trying-ends _ _ _ _ _ _ _ _ _ _ (c .before .loop .inv) (omega (arith, c .loop-test .left))
 
 pub best-at-spec : {M : Type 1} → statement M
 best-at-spec =
@@ -94,6 +97,7 @@ best-at-spec =
     add-loop
     longer-match-requires
     returns-2
+    returns-3
     add-codes-behind-2
     codes-behind-requires-2
     add-count
@@ -101,4 +105,4 @@ best-at-spec =
     lesser-requires
     loop-less
     loop-again
-    returns-3)
+    returns-4)

@@ -21,10 +21,10 @@ first-match-requires : tie.Need-first-match-requires Inv-loop μ-loop
 first-match-requires c κs = c .before .before .before .before .pre
 
 returns : tie.Need-returns Inv-loop μ-loop
-returns c = rising-none _ _ _ _ _ (c .before .before .before .before .before .before .before .pre .0) _ _ (c .before .before .first-match .ensures) (c .if1 .taken)
+returns c = rising-none _ _ _ _ _ (c .before .before .before .before .before .before .before .pre .0) _ _ (c .before .before .first-match .ensures .0) (c .if1 .taken)
 
 loop-holds : tie.Need-loop-holds Inv-loop μ-loop
-loop-holds c = rising-first _ _ _ _ _ (c .before .before .before .before .before .before .before .pre .0) _ _ (c .before .before .first-match .ensures) (c .if1 .left)
+loop-holds c = rising-first _ _ _ _ _ (c .before .before .before .before .before .before .before .pre .0) _ _ (c .before .before .first-match .ensures .0) (c .if1 .left)
 
 add-loop : tie.Need-add-loop Inv-loop μ-loop
 add-loop c = let f = met-inside c in search needs

@@ -5,6 +5,7 @@ ghost use lib.ListN.{length};
 ghost use Rattle.placed_rows.specs.Rows.{row, Placed};
 ghost use Rattle.search_area.specs.Answers.{Found};
 ghost use Rattle.token_pair.specs.Pair.{PairReady};
+ghost use Rattle.shortest_encoder.specs.Encoders.{MinimalReady, MinimalIs, GreedyReady, GreedyIs};
 ghost use Rattle.measured.specs.Measured.{LookupReady, JoinReady, PairsReady, PairNumber, Finds, Joins, Pairs};
 
 mod pieces;
@@ -105,4 +106,37 @@ pub extern "C" fn measured_pairs(
         out[i] = pair_number(file, places, lefts, rights, area, n, codes[i], others[i]);
         i += 1;
     }
+}
+
+// The core of `encode_minimal`, by itself.
+#[no_mangle]
+pub extern "C" fn measured_minimal(
+    file: &[u8],
+    places: &[u32],
+    area: &[u32],
+    n: usize,
+    text: &[u8],
+    out: &mut [u32],
+    work: &mut [u32],
+) -> usize
+    requires { ⌜ MinimalReady (now file) (now places) (now area) n (now text) (now out) (now work) ⌝ }
+    ensures { λ r. ⌜ MinimalIs (now (file .entry)) (now (places .entry)) (now (area .entry)) n (now (text .entry)) (now (out .entry)) (now (out .exit)) (now (work .entry)) (now (work .exit)) r ⌝ }
+{
+    shortest_encoder::encode_minimal_core(file, places, area, n, text, out, work)
+}
+
+// The core of `encode_greedy`, by itself.
+#[no_mangle]
+pub extern "C" fn measured_greedy(
+    file: &[u8],
+    places: &[u32],
+    area: &[u32],
+    n: usize,
+    text: &[u8],
+    out: &mut [u32],
+) -> usize
+    requires { ⌜ GreedyReady (now file) (now places) (now area) n (now text) (now out) ⌝ }
+    ensures { λ r. ⌜ GreedyIs (now (file .entry)) (now (places .entry)) (now (area .entry)) n (now (text .entry)) (now (out .entry)) (now (out .exit)) r ⌝ }
+{
+    shortest_encoder::encode_greedy_core(file, places, area, n, text, out)
 }

@@ -20,6 +20,36 @@ mod ffi {
             out_len: usize,
         );
 
+        pub fn measured_minimal(
+            file: *const u8,
+            file_len: usize,
+            places: *const u32,
+            places_len: usize,
+            area: *const u32,
+            area_len: usize,
+            n: usize,
+            text: *const u8,
+            text_len: usize,
+            out: *mut u32,
+            out_len: usize,
+            work: *mut u32,
+            work_len: usize,
+        ) -> usize;
+
+        pub fn measured_greedy(
+            file: *const u8,
+            file_len: usize,
+            places: *const u32,
+            places_len: usize,
+            area: *const u32,
+            area_len: usize,
+            n: usize,
+            text: *const u8,
+            text_len: usize,
+            out: *mut u32,
+            out_len: usize,
+        ) -> usize;
+
         pub fn measured_joins(
             file: *const u8,
             file_len: usize,
@@ -169,6 +199,50 @@ impl<'a> Checked<'a> {
                 t.area.len(),
                 codes.codes.as_ptr(),
                 codes.codes.len(),
+                out.as_mut_ptr(),
+                out.len(),
+            )
+        }
+    }
+
+    /// The fewest codes of a text of at most 4,096 bytes; how many.
+    pub fn minimal(&self, text: &[u8], out: &mut [u32], work: &mut [u32]) -> usize {
+        assert!(text.len() <= 4096 && text.len() <= out.len() && text.len() <= work.len());
+        let t = &self.tables;
+        unsafe {
+            ffi::measured_minimal(
+                t.file.as_ptr(),
+                t.file.len(),
+                t.places.as_ptr(),
+                t.places.len(),
+                t.area.as_ptr(),
+                t.area.len(),
+                self.n,
+                text.as_ptr(),
+                text.len(),
+                out.as_mut_ptr(),
+                out.len(),
+                work.as_mut_ptr(),
+                work.len(),
+            )
+        }
+    }
+
+    /// The longest row at each place of a text of at most 4,096 bytes; how many.
+    pub fn greedy(&self, text: &[u8], out: &mut [u32]) -> usize {
+        assert!(text.len() <= 4096 && text.len() <= out.len());
+        let t = &self.tables;
+        unsafe {
+            ffi::measured_greedy(
+                t.file.as_ptr(),
+                t.file.len(),
+                t.places.as_ptr(),
+                t.places.len(),
+                t.area.as_ptr(),
+                t.area.len(),
+                self.n,
+                text.as_ptr(),
+                text.len(),
                 out.as_mut_ptr(),
                 out.len(),
             )

@@ -360,7 +360,19 @@ fn text_calls<'a>(sheet: &'a Sheet, text: &'a [u8]) -> Vec<Call<'a>> {
     assert_eq!(bytes, text);
     let again = codes.clone();
     let mut calls: Vec<Call> = ENCODERS.into_iter().map(encoder).collect();
+    let (one, other) = (Checked::new(tables).unwrap(), Checked::new(tables).unwrap());
+    let (mut codes_out, mut entries, mut rows_out) = (vec![0; size], vec![0; size], vec![0; size]);
     calls.extend([
+        on("encode_minimal, core by itself")
+            .run(1, 0)
+            .core()
+            .ours(move || one.minimal(text, &mut codes_out, &mut entries) as u64)
+            .rust(move || rust.encode_minimal(text).len() as u64),
+        on("encode_greedy, core by itself")
+            .run(1, 0)
+            .core()
+            .ours(move || other.greedy(text, &mut rows_out) as u64)
+            .rust(move || rust.encode_greedy(text).len() as u64),
         on("count")
             .ours(move || u64::from(tables.count(text, &mut work).unwrap()))
             .rust(move || rust.count(text) as u64),

@@ -56,7 +56,7 @@ module _ (rows : List (List ℕ)) where
       (λ h. ap (bytesOf rows) (code-lost b h) ∙ beyond (length rows + b) (omega arith) ∙ ap (λ (z : ℕ). z ∷ []) (omega arith))
       (lt-or-ge (find rows (b ∷ [])) (length rows))
 
-  parts-length : (q : ℕ) → length (partsBelow rows q) ≡ q
+  pub parts-length : (q : ℕ) → length (partsBelow rows q) ≡ q
   unfolding partsBelow
   parts-length zero = refl
   parts-length (suc q) = let e = parts-length q in omega (arith, length-append (partsBelow rows q) (partsOf rows (partsBelow rows q) q ∷ []))

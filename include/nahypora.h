@@ -99,26 +99,61 @@ typedef struct {
     uint32_t count;
 } bpe_state;
 
+/* The side of a typing call: BPE_APPEND puts bytes at the end, any other number, as BPE_PREPEND, at the front. */
+#define BPE_APPEND 0u
+#define BPE_PREPEND 1u
+
 /* Types one byte; the answer is the new length. Only the record added and the head are written. Causes: 8 (tables, head or a record below
  * the length), 12 (place: the current length) if there is no record left or 4,096 bytes are typed. */
-uint64_t bpe_append_push(BPE_TABLES, uint8_t byte, bpe_head *head, bpe_state *states, size_t states_len);
-uint64_t bpe_prepend_push(BPE_TABLES, uint8_t byte, bpe_head *head, bpe_state *states, size_t states_len);
+uint64_t bpe_push(BPE_TABLES, uint32_t side, uint8_t byte, bpe_head *head, bpe_state *states, size_t states_len);
 
 /* Types bytes, the first one first, all or none; the answer is the new length. Only the records added and the head are written. Causes: 9
  * (more than 4,096 bytes), 8, 12. */
-uint64_t bpe_append_extend(BPE_TABLES, const uint8_t *bytes, size_t bytes_len, bpe_head *head, bpe_state *states,
-                           size_t states_len);
-uint64_t bpe_prepend_extend(BPE_TABLES, const uint8_t *bytes, size_t bytes_len, bpe_head *head, bpe_state *states,
-                            size_t states_len);
+uint64_t bpe_extend(BPE_TABLES, uint32_t side, const uint8_t *bytes, size_t bytes_len, bpe_head *head,
+                    bpe_state *states, size_t states_len);
 
 /* Keeps the first so many bytes typed, or all if there are fewer; the answer is the new length. Only the head is written. Cause: 8, of the
- * head alone. */
-uint64_t bpe_append_truncate(size_t keep, bpe_head *head, const bpe_state *states, size_t states_len);
-uint64_t bpe_prepend_truncate(size_t keep, bpe_head *head, const bpe_state *states, size_t states_len);
+ * head alone. It is the same on both sides. */
+uint64_t bpe_truncate(size_t keep, bpe_head *head, const bpe_state *states, size_t states_len);
 
 /* The number of codes of the bytes typed. Nothing is written. Cause: 8. */
-uint64_t bpe_append_token_count(BPE_TABLES, const bpe_head *head, const bpe_state *states, size_t states_len);
-uint64_t bpe_prepend_token_count(BPE_TABLES, const bpe_head *head, const bpe_state *states, size_t states_len);
+uint64_t bpe_token_count(BPE_TABLES, uint32_t side, const bpe_head *head, const bpe_state *states, size_t states_len);
+
+/* The four calls under a name for each side. */
+#define BPE_GIVEN_TABLES                                                                                               \
+    file, file_len, places, places_len, lefts, lefts_len, rights, rights_len, prefixes, prefixes_len, area, area_len
+
+static inline uint64_t bpe_append_push(BPE_TABLES, uint8_t byte, bpe_head *head, bpe_state *states, size_t states_len) {
+    return bpe_push(BPE_GIVEN_TABLES, BPE_APPEND, byte, head, states, states_len);
+}
+static inline uint64_t bpe_prepend_push(BPE_TABLES, uint8_t byte, bpe_head *head, bpe_state *states,
+                                        size_t states_len) {
+    return bpe_push(BPE_GIVEN_TABLES, BPE_PREPEND, byte, head, states, states_len);
+}
+static inline uint64_t bpe_append_extend(BPE_TABLES, const uint8_t *bytes, size_t bytes_len, bpe_head *head,
+                                         bpe_state *states, size_t states_len) {
+    return bpe_extend(BPE_GIVEN_TABLES, BPE_APPEND, bytes, bytes_len, head, states, states_len);
+}
+static inline uint64_t bpe_prepend_extend(BPE_TABLES, const uint8_t *bytes, size_t bytes_len, bpe_head *head,
+                                          bpe_state *states, size_t states_len) {
+    return bpe_extend(BPE_GIVEN_TABLES, BPE_PREPEND, bytes, bytes_len, head, states, states_len);
+}
+static inline uint64_t bpe_append_truncate(size_t keep, bpe_head *head, const bpe_state *states, size_t states_len) {
+    return bpe_truncate(keep, head, states, states_len);
+}
+static inline uint64_t bpe_prepend_truncate(size_t keep, bpe_head *head, const bpe_state *states, size_t states_len) {
+    return bpe_truncate(keep, head, states, states_len);
+}
+static inline uint64_t bpe_append_token_count(BPE_TABLES, const bpe_head *head, const bpe_state *states,
+                                              size_t states_len) {
+    return bpe_token_count(BPE_GIVEN_TABLES, BPE_APPEND, head, states, states_len);
+}
+static inline uint64_t bpe_prepend_token_count(BPE_TABLES, const bpe_head *head, const bpe_state *states,
+                                               size_t states_len) {
+    return bpe_token_count(BPE_GIVEN_TABLES, BPE_PREPEND, head, states, states_len);
+}
+
+#undef BPE_GIVEN_TABLES
 
 /* Prepares the counts of pieces of a text of at most 4,096 bytes. For each of its prefixes: the last code (but for the empty prefix), the
  * tree number, one past the last tree number below it, and the number of codes. last_codes and work need one number per byte, numbers, ends

@@ -99,6 +99,8 @@ class Replay:
             self.file += b"".join(record(bytes([k // 256, k % 256])) for k in range(int(rest)))
         elif command == "row":
             self.file += record(unescape(rest))
+        elif command == "again":
+            self.file += record(unescape(rest.partition(b" ")[2])) * int(words[0])
         elif command == "raw":
             self.file += unescape(rest)
         elif command == "lend":

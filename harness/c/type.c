@@ -70,6 +70,11 @@ int main(void) {
     say("prepend truncate", bpe_prepend_truncate(9, &head, states, RECORDS));
     head.len = RECORDS + 1;
     say("prepend truncate, a head beyond the slice", bpe_prepend_truncate(9, &head, states, RECORDS));
+    head.len = 0;
+    say("extend on side 2", bpe_extend(TABLES, 2, (const uint8_t *)"nia", 3, &head, states, RECORDS));
+    say("push on side 2", bpe_push(TABLES, 2, 'r', &head, states, RECORDS));
+    say("token count on side 2", bpe_token_count(TABLES, 2, &head, states, RECORDS));
+    say("truncate", bpe_truncate(3, &head, states, RECORDS));
 
     const uint8_t *text = (const uint8_t *)"rain again rain";
     say("prepare", bpe_interval_prepare(TABLES, text, TEXT, last_codes, TEXT, numbers, TEXT + 1, ends, TEXT + 1, depths,

@@ -33,6 +33,11 @@ say("prepend token count", book.token_count())
 shown(book)
 say("prepend truncate", book.truncate(9))
 say("prepend truncate, a head beyond the slice", (8, 0))
+book = Book(d, "prepend", 12)
+say("extend on side 2", book.extend(b"nia"))
+say("push on side 2", book.push(ord("r")))
+say("token count on side 2", book.token_count())
+say("truncate", book.truncate(3))
 text = b"rain again rain"
 say("prepare", (0, len(text)))
 for name, table in zip(["last codes", "numbers", "ends", "depths"], interval_tables(d, text)):

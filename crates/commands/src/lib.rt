@@ -1,48 +1,28 @@
 // Works through a list of commands on standard input: phrase files, builds, encoders, counters, decoding. Each command that calls
 // the library prints its answer, and whether the lent buffers hold what document 01 says beside it. README.md lists the commands.
 mod building;
-mod canary;
-mod fields;
-mod files;
-mod names;
 mod sending;
-mod sizes;
 
-use fields::END;
-use fields::field;
-use fields::read_line;
-use fields::rest;
-use names::BITFIELD;
-use names::NO_COMMAND;
-use sizes::AREA;
-use sizes::CODES;
-use sizes::FILE;
-use sizes::LEFTS;
-use sizes::PLACES;
-use sizes::PREFIXES;
-use sizes::RIGHTS;
-use sizes::SearchArea;
-use sizes::Sizes;
-use sizes::TEXT;
-use sizes::Table;
+use script_lines::names::BITFIELD;
+use script_lines::names::NO_COMMAND;
+use script_lines::sizes::AREA;
+use script_lines::sizes::CODES;
+use script_lines::sizes::FILE;
+use script_lines::sizes::LEFTS;
+use script_lines::sizes::PLACES;
+use script_lines::sizes::PREFIXES;
+use script_lines::sizes::RIGHTS;
+use script_lines::sizes::SearchArea;
+use script_lines::sizes::Sizes;
+use script_lines::sizes::TEXT;
+use script_lines::sizes::Table;
+use words::fields::END;
+use words::fields::field;
+use words::fields::read_line;
+use words::fields::rest;
 use words::front;
 use words::front_numbers;
 use words::say;
-
-// Does a command that writes the file, the text, the codes or the sizes, if it is one.
-fn write(
-    command: usize,
-    line: &[u8],
-    file: &mut [u8; 66000],
-    sizes: &mut Sizes,
-    text: &mut [u8; 4200],
-    codes: &mut Table,
-) {
-    sizes::lend(command, line, sizes);
-    sizes[FILE] = files::write(command, line, file, sizes[FILE]);
-    sizes[TEXT] = sending::write_text(command, line, text, sizes[TEXT]);
-    sizes[CODES] = sending::write_codes(command, line, codes, sizes[CODES]);
-}
 
 // Does a command that reads the tables, each buffer as far as it is lent or written.
 fn read(
@@ -96,10 +76,10 @@ fn obey(
     text: &mut [u8; 4200],
     codes: &mut Table,
 ) {
-    let command = names::command(field(line));
+    let command = script_lines::names::command(field(line));
     let arguments = rest(line);
     say_name(command, field(line));
-    write(command, arguments, file, sizes, text, codes);
+    script_lines::write(command, arguments, file, sizes, text, codes);
     building::obey(
         command,
         arguments,
@@ -138,7 +118,7 @@ pub fn run() {
     let mut text = [0u8; 4200];
     let mut codes = [0u32; 4200];
     let mut sizes = [0usize; 16];
-    sizes::lend_all(&mut sizes);
+    script_lines::sizes::lend_all(&mut sizes);
     for k in 0..1000000usize {
         let size = read_line(&mut line);
         if size == END {

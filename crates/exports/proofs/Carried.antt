@@ -1,8 +1,4 @@
-pub mod typing_calls_bpe_append_extend
-pub mod typing_calls_bpe_append_push
-pub mod typing_calls_bpe_append_token_count
-pub mod typing_calls_bpe_append_truncate
-pub mod typing_calls_bpe_prepend_extend
-pub mod typing_calls_bpe_prepend_push
-pub mod typing_calls_bpe_prepend_token_count
-pub mod typing_calls_bpe_prepend_truncate
+pub mod typing_calls_bpe_extend
+pub mod typing_calls_bpe_push
+pub mod typing_calls_bpe_token_count
+pub mod typing_calls_bpe_truncate

@@ -1,34 +1,40 @@
-// The typing calls for C, document 01's AppendableEncoder and PrependableEncoder: each packs the answer of the call of crate `typing` for its side.
-// Head and records are `#[repr(C)]` structs of that crate. The proofs of these functions are carried over by tools/carry.
+// The typing calls for C, document 01's AppendableEncoder and PrependableEncoder: each packs the answer of the call of
+// crate `typing`. The side is the call's first own argument, as there; 0 appends, any other number prepends. Head and
+// records are `#[repr(C)]` structs of that crate. The proofs of these functions are carried over by tools/carry.
 ghost use mathlib.Core.List.{[], _∷_};
 ghost use lib.ListN.{length};
 ghost use Rattle.tables.specs.declared.Answer.{Answer};
 ghost use Rattle.answers.specs.Answers.{answerOf};
-ghost use Rattle.theory.specs.Typing.{append, prepend};
+ghost use Rattle.typing_core.specs.Sides.{sideOf, sideNumbered};
 ghost use Rattle.typing.specs.Calls.{Extended, TokenCounted, Truncated};
 ghost use Rattle.exports.specs.Packed.{Packs};
 use crate::pack_answer;
 use typing::Head;
 use typing::State;
-use typing_core::Side;
+use typing_core::side_numbered;
 
-// One byte, at the end; the answer is the new length.
+// One byte, at the end or at the front; the answer is the new length.
 #[no_mangle]
-pub extern "C" fn bpe_append_push(
+pub extern "C" fn bpe_push(
     file: &[u8],
     places: &[u32],
     lefts: &[u32],
     rights: &[u32],
     prefixes: &[u32],
     area: &[u32],
+    side: u32,
     byte: u8,
     head: &mut Head,
     states: &mut [State],
 ) -> u64
-    ensures { λ r. ⌜ Packs answerOf (λ (a : Answer). Extended (now (file .entry)) (now (places .entry)) (now (lefts .entry)) (now (rights .entry)) (now (prefixes .entry)) (now (area .entry)) append (now (head .entry) .len) (now (states .entry)) (byte ∷ []) a (now (head .exit) .len) (now (states .exit))) r ⌝ }
+    ensures { λ r. ⌜ Packs answerOf (λ (a : Answer). Extended
+        (now (file .entry)) (now (places .entry)) (now (lefts .entry))
+        (now (rights .entry)) (now (prefixes .entry)) (now (area .entry))
+        (sideOf (sideNumbered side)) (now (head .entry) .len) (now (states .entry)) (byte ∷ []) a
+        (now (head .exit) .len) (now (states .exit))) r ⌝ }
 {
     let answer = typing::push(
-        Side::Append,
+        side_numbered(side),
         file,
         places,
         lefts,
@@ -42,23 +48,28 @@ pub extern "C" fn bpe_append_push(
     pack_answer(answer)
 }
 
-// Bytes in order, each at the end; the answer is the new length.
+// Bytes in order, each at the end or each at the front; the answer is the new length.
 #[no_mangle]
-pub extern "C" fn bpe_append_extend(
+pub extern "C" fn bpe_extend(
     file: &[u8],
     places: &[u32],
     lefts: &[u32],
     rights: &[u32],
     prefixes: &[u32],
     area: &[u32],
+    side: u32,
     bytes: &[u8],
     head: &mut Head,
     states: &mut [State],
 ) -> u64
-    ensures { λ r. ⌜ Packs answerOf (λ (a : Answer). Extended (now (file .entry)) (now (places .entry)) (now (lefts .entry)) (now (rights .entry)) (now (prefixes .entry)) (now (area .entry)) append (now (head .entry) .len) (now (states .entry)) (now (bytes .entry)) a (now (head .exit) .len) (now (states .exit))) r ⌝ }
+    ensures { λ r. ⌜ Packs answerOf (λ (a : Answer). Extended
+        (now (file .entry)) (now (places .entry)) (now (lefts .entry))
+        (now (rights .entry)) (now (prefixes .entry)) (now (area .entry))
+        (sideOf (sideNumbered side)) (now (head .entry) .len) (now (states .entry)) (now (bytes .entry)) a
+        (now (head .exit) .len) (now (states .exit))) r ⌝ }
 {
     let answer = typing::extend(
-        Side::Append,
+        side_numbered(side),
         file,
         places,
         lefts,
@@ -72,10 +83,11 @@ pub extern "C" fn bpe_append_extend(
     pack_answer(answer)
 }
 
-// The first so many records kept; the answer is the new length. No tables are looked at.
+// The first so many records kept; the answer is the new length. No tables are looked at, and the side does not matter.
 #[no_mangle]
-pub extern "C" fn bpe_append_truncate(keep: usize, head: &mut Head, states: &[State]) -> u64
-    ensures { λ r. ⌜ Packs answerOf (λ (a : Answer). Truncated (now (head .entry) .len) (length (now (states .entry))) keep a (now (head .exit) .len)) r ⌝ }
+pub extern "C" fn bpe_truncate(keep: usize, head: &mut Head, states: &[State]) -> u64
+    ensures { λ r. ⌜ Packs answerOf (λ (a : Answer). Truncated
+        (now (head .entry) .len) (length (now (states .entry))) keep a (now (head .exit) .len)) r ⌝ }
 {
     let answer = typing::truncate(head, states, keep);
     pack_answer(answer)
@@ -83,117 +95,24 @@ pub extern "C" fn bpe_append_truncate(keep: usize, head: &mut Head, states: &[St
 
 // The count of the last record, 0 at length 0.
 #[no_mangle]
-pub extern "C" fn bpe_append_token_count(
+pub extern "C" fn bpe_token_count(
     file: &[u8],
     places: &[u32],
     lefts: &[u32],
     rights: &[u32],
     prefixes: &[u32],
     area: &[u32],
+    side: u32,
     head: &Head,
     states: &[State],
 ) -> u64
-    ensures { λ r. ⌜ Packs answerOf (λ (a : Answer). TokenCounted (now (file .entry)) (now (places .entry)) (now (lefts .entry)) (now (rights .entry)) (now (prefixes .entry)) (now (area .entry)) append (now (head .entry) .len) (now (states .entry)) a) r ⌝ }
+    ensures { λ r. ⌜ Packs answerOf (λ (a : Answer). TokenCounted
+        (now (file .entry)) (now (places .entry)) (now (lefts .entry))
+        (now (rights .entry)) (now (prefixes .entry)) (now (area .entry))
+        (sideOf (sideNumbered side)) (now (head .entry) .len) (now (states .entry)) a) r ⌝ }
 {
     let answer = typing::token_count(
-        Side::Append,
-        file,
-        places,
-        lefts,
-        rights,
-        prefixes,
-        area,
-        head,
-        states,
-    );
-    pack_answer(answer)
-}
-
-// One byte, at the front; the answer is the new length.
-#[no_mangle]
-pub extern "C" fn bpe_prepend_push(
-    file: &[u8],
-    places: &[u32],
-    lefts: &[u32],
-    rights: &[u32],
-    prefixes: &[u32],
-    area: &[u32],
-    byte: u8,
-    head: &mut Head,
-    states: &mut [State],
-) -> u64
-    ensures { λ r. ⌜ Packs answerOf (λ (a : Answer). Extended (now (file .entry)) (now (places .entry)) (now (lefts .entry)) (now (rights .entry)) (now (prefixes .entry)) (now (area .entry)) prepend (now (head .entry) .len) (now (states .entry)) (byte ∷ []) a (now (head .exit) .len) (now (states .exit))) r ⌝ }
-{
-    let answer = typing::push(
-        Side::Prepend,
-        file,
-        places,
-        lefts,
-        rights,
-        prefixes,
-        area,
-        head,
-        states,
-        byte,
-    );
-    pack_answer(answer)
-}
-
-// Bytes in order, each at the front; the answer is the new length.
-#[no_mangle]
-pub extern "C" fn bpe_prepend_extend(
-    file: &[u8],
-    places: &[u32],
-    lefts: &[u32],
-    rights: &[u32],
-    prefixes: &[u32],
-    area: &[u32],
-    bytes: &[u8],
-    head: &mut Head,
-    states: &mut [State],
-) -> u64
-    ensures { λ r. ⌜ Packs answerOf (λ (a : Answer). Extended (now (file .entry)) (now (places .entry)) (now (lefts .entry)) (now (rights .entry)) (now (prefixes .entry)) (now (area .entry)) prepend (now (head .entry) .len) (now (states .entry)) (now (bytes .entry)) a (now (head .exit) .len) (now (states .exit))) r ⌝ }
-{
-    let answer = typing::extend(
-        Side::Prepend,
-        file,
-        places,
-        lefts,
-        rights,
-        prefixes,
-        area,
-        head,
-        states,
-        bytes,
-    );
-    pack_answer(answer)
-}
-
-// The first so many records kept; the answer is the new length. No tables are looked at.
-#[no_mangle]
-pub extern "C" fn bpe_prepend_truncate(keep: usize, head: &mut Head, states: &[State]) -> u64
-    ensures { λ r. ⌜ Packs answerOf (λ (a : Answer). Truncated (now (head .entry) .len) (length (now (states .entry))) keep a (now (head .exit) .len)) r ⌝ }
-{
-    let answer = typing::truncate(head, states, keep);
-    pack_answer(answer)
-}
-
-// The count of the last record, 0 at length 0.
-#[no_mangle]
-pub extern "C" fn bpe_prepend_token_count(
-    file: &[u8],
-    places: &[u32],
-    lefts: &[u32],
-    rights: &[u32],
-    prefixes: &[u32],
-    area: &[u32],
-    head: &Head,
-    states: &[State],
-) -> u64
-    ensures { λ r. ⌜ Packs answerOf (λ (a : Answer). TokenCounted (now (file .entry)) (now (places .entry)) (now (lefts .entry)) (now (rights .entry)) (now (prefixes .entry)) (now (area .entry)) prepend (now (head .entry) .len) (now (states .entry)) a) r ⌝ }
-{
-    let answer = typing::token_count(
-        Side::Prepend,
+        side_numbered(side),
         file,
         places,
         lefts,

@@ -120,6 +120,19 @@ fn make(name: &[u8], buffer: &Sheet, size: usize, out: &[u8]) {
     }
 }
 
+// Reads the sheet into a buffer and makes its file.
+fn make_named(name: &[u8], out: &[u8], bytes: &mut Sheet) {
+    match read_named(name, bytes) {
+        Source::Bytes(size) => make(name, bytes, size, out),
+        Source::Over => {
+            say_argument(b"SHEET", name);
+            say(b"it has more than 262144 bytes");
+            say_error_result(b"SHEET");
+        }
+        Source::Failed(error) => say_failed(b"SHEET", name, error),
+    }
+}
+
 // The command.
 pub fn make_phrase_file(name: &[u8], out: &[u8]) {
     if is(name, out) {
@@ -129,13 +142,5 @@ pub fn make_phrase_file(name: &[u8], out: &[u8]) {
         return;
     }
     let mut bytes = [0u8; 262144];
-    match read_named(name, &mut bytes) {
-        Source::Bytes(size) => make(name, &bytes, size, out),
-        Source::Over => {
-            say_argument(b"SHEET", name);
-            say(b"it has more than 262144 bytes");
-            say_error_result(b"SHEET");
-        }
-        Source::Failed(error) => say_failed(b"SHEET", name, error),
-    }
+    make_named(name, out, &mut bytes);
 }

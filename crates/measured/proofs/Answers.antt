@@ -1,4 +1,4 @@
--- What a lookup answers, in the words of the loop over it. Assumes nothing.
+-- What a lookup answers, in the words of the loop over it; and typing on a numbered side. Assumes nothing.
 use mathlib.Core.Path.{_≡_, refl}
 use mathlib.Core.List.{List}
 use mathlib.Core.Bool.{Bool, cond}
@@ -6,6 +6,12 @@ use Prim.Native.Nat.{ℕ}
 use Rattle.placed_rows.specs.Rows.{row}
 use Rattle.search_area.specs.Answers.{Found}
 use Rattle.token_pair.specs.Pair.{PairIs}
+use Rattle.tables.specs.declared.Answer.{Answer}
+use Rattle.answers.specs.Answers.{answerOf}
+use Rattle.typing_core.specs.Sides.{sideOf}
+use Rattle.typing_core.specs.declared.Side.{Side}
+use Rattle.typing_core.specs.Columns.{ExtendedColumns}
+use Rattle.measured.specs.Core.{Answers}
 use Rattle.measured.specs.Measured.{PairNumber}
 
 -- the bytes looked up are those of row x
@@ -17,3 +23,11 @@ found-row e f F = rw (e, f) at F
 pub numbered : {file places lefts rights area : List ℕ} {n u v : ℕ} (check b : Bool) → check ≡ b → PairIs file places lefts rights area n n u v check
     → PairNumber file places lefts rights area n u v (cond b 1 0)
 numbered check b e P = record { check = b; checked = rw e at P; is = refl }
+
+-- the bytes typed on the side that the caller's number names
+pub typed-on : {file places lefts rights prefixes area : List ℕ} {side named : Side} {len size : ℕ} {bytes codes counts typed : List ℕ} {a : Answer}
+    {bytes' codes' counts' : List ℕ} {r : ℕ} → side ≡ named
+    → ExtendedColumns file places lefts rights prefixes area (sideOf side) len size bytes codes counts typed a bytes' codes' counts'
+    → r ≡ answerOf a .place
+    → Answers (λ (x : Answer). ExtendedColumns file places lefts rights prefixes area (sideOf named) len size bytes codes counts typed x bytes' codes' counts') r
+typed-on {a = a} e met is = record { answer = a; met = rw e at met; is = is }

@@ -1,62 +1,34 @@
 // Typing from length 0 over lent columns: what push does for each byte, after one check of the tables.
 ghost use Rattle.tables.specs.declared.Answer.{Answer};
-ghost use Rattle.theory.specs.Typing.{append, prepend};
+ghost use Rattle.typing_core.specs.Sides.{sideOf, sideNumbered};
 ghost use Rattle.typing_core.specs.Columns.{ExtendedColumns};
 ghost use Rattle.measured.specs.Core.{Answers};
-use typing_core::Side;
+use typing_core::side_numbered;
 
-// Types the bytes, each at the end; the number of bytes typed, or the place of a refusal.
+// Types the bytes, each at the end (side 0) or each at the front; the number of bytes typed, or the place of a refusal.
 #[no_mangle]
-pub extern "C" fn measured_append(
+pub extern "C" fn measured_extend(
     file: &[u8],
     places: &[u32],
     lefts: &[u32],
     rights: &[u32],
     prefixes: &[u32],
     area: &[u32],
+    side: u32,
     typed: &[u8],
     bytes: &mut [u8; 4096],
     codes: &mut [u32; 4096],
     counts: &mut [u32; 4096],
 ) -> u64
-    ensures { λ r. ⌜ Answers (λ (a : Answer). ExtendedColumns (now (file .entry)) (now (places .entry)) (now (lefts .entry)) (now (rights .entry)) (now (prefixes .entry)) (now (area .entry)) append 0 4096 (now (bytes .entry)) (now (codes .entry)) (now (counts .entry)) (now (typed .entry)) a (now (bytes .exit)) (now (codes .exit)) (now (counts .exit))) r ⌝ }
+    ensures { λ r. ⌜ Answers (λ (a : Answer). ExtendedColumns
+        (now (file .entry)) (now (places .entry)) (now (lefts .entry))
+        (now (rights .entry)) (now (prefixes .entry)) (now (area .entry))
+        (sideOf (sideNumbered side)) 0 4096 (now (bytes .entry)) (now (codes .entry)) (now (counts .entry))
+        (now (typed .entry)) a
+        (now (bytes .exit)) (now (codes .exit)) (now (counts .exit))) r ⌝ }
 {
     let answer = typing_core::extend_columns(
-        Side::Append,
-        file,
-        places,
-        lefts,
-        rights,
-        prefixes,
-        area,
-        0,
-        4096,
-        bytes,
-        codes,
-        counts,
-        typed,
-    );
-    answers::answer_place(answer)
-}
-
-// Types the bytes, each at the front; the number of bytes typed, or the place of a refusal.
-#[no_mangle]
-pub extern "C" fn measured_prepend(
-    file: &[u8],
-    places: &[u32],
-    lefts: &[u32],
-    rights: &[u32],
-    prefixes: &[u32],
-    area: &[u32],
-    typed: &[u8],
-    bytes: &mut [u8; 4096],
-    codes: &mut [u32; 4096],
-    counts: &mut [u32; 4096],
-) -> u64
-    ensures { λ r. ⌜ Answers (λ (a : Answer). ExtendedColumns (now (file .entry)) (now (places .entry)) (now (lefts .entry)) (now (rights .entry)) (now (prefixes .entry)) (now (area .entry)) prepend 0 4096 (now (bytes .entry)) (now (codes .entry)) (now (counts .entry)) (now (typed .entry)) a (now (bytes .exit)) (now (codes .exit)) (now (counts .exit))) r ⌝ }
-{
-    let answer = typing_core::extend_columns(
-        Side::Prepend,
+        side_numbered(side),
         file,
         places,
         lefts,

@@ -11,19 +11,17 @@ use words::front_numbers;
 use words::say;
 use words::say_quoted;
 
-// Writes the page of the codes at the front of a buffer, and says so.
+// Writes the page of some codes by way of a buffer, and says so.
 fn write_page(
     file: &[u8],
     places: &[u32],
     size: usize,
-    buffer: &[u32; 4096],
-    count: usize,
+    codes: &[u32],
     out: &[u8],
+    page: &mut [u8],
 ) {
-    let codes = front_numbers(buffer, count);
-    let mut page = [0u8; 524288];
-    let end = page::put_page(&mut page, size, file, places, codes);
-    match write_named(out, front(&page, end)) {
+    let end = page::put_page(page, size, file, places, codes);
+    match write_named(out, front(page, end)) {
         Written::Done => {
             say_quoted(out);
             say(b": ");
@@ -34,6 +32,27 @@ fn write_page(
         }
         Written::Failed(error) => say_failed(b"OUT", out, error),
     }
+}
+
+// The same for the codes at the front of a buffer. The page's buffer is made here, where nothing else is done: the
+// prover takes long for each step beside an array of this size.
+fn show_codes(
+    file: &[u8],
+    places: &[u32],
+    size: usize,
+    buffer: &[u32; 4096],
+    count: usize,
+    out: &[u8],
+) {
+    let mut page = [0u8; 524288];
+    write_page(
+        file,
+        places,
+        size,
+        front_numbers(buffer, count),
+        out,
+        &mut page,
+    );
 }
 
 // The command.
@@ -63,5 +82,5 @@ pub fn show(
     let Sent::Codes(count) = told(answer, file) else {
         return;
     };
-    write_page(file, places, text.len(), &codes, count, out);
+    show_codes(file, places, text.len(), &codes, count, out);
 }

@@ -41,10 +41,6 @@ pub cut-in : (len size n : ℕ) → headOut len size ≡ false → answered (tru
 unfolding truncateRefusal
 cut-in len size n e = ap (λ (b : Bool). answered (when b OutOfForm none) n) e
 
-pub cut-none : (len size : ℕ) → headOut len size ≡ false → truncateRefusal len size ≡ none
-unfolding truncateRefusal
-cut-none len size e = ap (λ (b : Bool). when b OutOfForm none) e
-
 -- ---- the length after a call
 pub end-refused : (o : Option Cause) (n len : ℕ) (cause : Cause) → o ≡ some cause → endAfter (answered o n) len ≡ len
 end-refused o n len cause e = ap (λ (p : Option Cause). endAfter (answered p n) len) e

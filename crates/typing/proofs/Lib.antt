@@ -7,4 +7,3 @@ pub mod Refusals
 pub mod Agreeing
 pub mod Calling
 pub mod Texting
-pub mod Piecing

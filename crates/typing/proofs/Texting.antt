@@ -67,11 +67,6 @@ module _ (D : Dictionary) (side : Side) (text : List ℕ) (i len : ℕ) (states 
       long : length (take len (bytesOf states)) ≡ i
       long = length-take-le len (bytesOf states) (omega (arith, S .len-is, S .few, slice, length-map states (λ (s : State). s .byte))) ∙ S .len-is
 
--- fewer records
-pub fewer : (D : Dictionary) (side : Side) (text : List ℕ) (i len : ℕ) (states : List State) → Standing D side text i len states → (k len' : ℕ) → k ≤ i → len' ≡ k
-    → Standing D side text k len' states
-fewer D side text i len states S k len' l e = record { len-is = e; few = omega (arith, S .few, l); records = λ j h. S .records j (omega (arith, h, l)) }
-
 module _ (file placeTable lefts rights prefixes area : List ℕ) (n : ℕ) (B : Built file placeTable lefts rights prefixes area n) (side : Side) (text : List ℕ) where
   abbrev D : Dictionary
   D = dictionaryOf file
@@ -80,7 +75,7 @@ module _ (file placeTable lefts rights prefixes area : List ℕ) (n : ℕ) (B : 
   form-is = formOf file placeTable lefts rights prefixes area
 
   -- a count is no more than the bytes
-  pub count-small : (i : ℕ) → countAt D side text i ≤ suc i
+  count-small : (i : ℕ) → countAt D side text i ≤ suc i
   unfolding countAt
   count-small i =
       let t = inOrder side (take (suc i) text) in
@@ -88,7 +83,7 @@ module _ (file placeTable lefts rights prefixes area : List ℕ) (n : ℕ) (B : 
       omega (arith, codes-fit D L (encode D t), ap length (encode-spells D L t), length-inOrder side (take (suc i) text), length-take (suc i) text)
 
   module _ (i len : ℕ) (states : List State) (octets : Octets text) (S : Standing D side text i len states) (slice : length states ≡ 4096) (text-fits : i ≤ length text) where
-    pub head-is : headOut len (length states) ≡ false
+    head-is : headOut len (length states) ≡ false
     head-is = head-in len (length states) (omega (arith, S .len-is, S .few)) (omega (arith, S .len-is, S .few))
 
     -- true records are in form
@@ -103,7 +98,7 @@ module _ (file placeTable lefts rights prefixes area : List ℕ) (n : ℕ) (B : 
         i text-fits (λ k l. record { code = code-at D side text i len states S k l; count = count-at D side text i len states S k l }) j below)
 
     -- where there are records left, push and extend are not refused
-    pub passes : (typed : List ℕ) (fine : Bool) → FormOf file placeTable lefts rights prefixes area side len (length states) (bytesOf states) (codesOf states) (countsOf states) fine
+    passes : (typed : List ℕ) (fine : Bool) → FormOf file placeTable lefts rights prefixes area side len (length states) (bytesOf states) (codesOf states) (countsOf states) fine
         → i + length typed ≤ 4096 → extendRefusal form-is len (length states) fine typed ≡ none
     unfolding extendRefusal
     passes typed fine form h = rw (
@@ -116,14 +111,14 @@ module _ (file placeTable lefts rights prefixes area : List ℕ) (n : ℕ) (B : 
     )
 
     -- `token_count` gives the count of the text so far
-    pub count-is : (k : ℕ) → i ≡ suc k → (r : Answer) → TokenCounted file placeTable lefts rights prefixes area side len states r → r ≡ Number (countAt D side text k)
+    count-is : (k : ℕ) → i ≡ suc k → (r : Answer) → TokenCounted file placeTable lefts rights prefixes area side len states r → r ≡ Number (countAt D side text k)
     unfolding tokenCountRefusal
     count-is k e r c =
         c .answer ∙ rw (in-form file placeTable lefts rights prefixes area n B, fine-is (c .fine) (c .form), head-is, S .len-is ∙ e)
         (ap Number (count-at D side text i len states S k (omega (arith, e))))
 
     -- the records of the next bytes of the text
-    pub longer : (typed : List ℕ) (r : Answer) (len' : ℕ) (states' : List State) (X : Extended file placeTable lefts rights prefixes area side len states typed r len' states')
+    longer : (typed : List ℕ) (r : Answer) (len' : ℕ) (states' : List State) (X : Extended file placeTable lefts rights prefixes area side len states typed r len' states')
         → typed ≡ take (length typed) (drop i text) → i + length typed ≤ 4096 → Standing D side text (i + length typed) len' states'
     longer typed r len' states' X is room = record {
       len-is = X .longer free ∙ ap (λ (k : ℕ). k + length typed) (S .len-is);
@@ -149,7 +144,7 @@ module _ (file placeTable lefts rights prefixes area : List ℕ) (n : ℕ) (B : 
             ap entryOf (sym (getD-take len states' j noState l) ∙ ap (λ (x : List State). getD x j noState) (X .before-kept) ∙ getD-take len states j noState l) ∙ S .records j h
 
 -- the next byte alone
-pub next-byte : (text : List ℕ) (i : ℕ) → i < length text → getD text i 0 ∷ [] ≡ take 1 (drop i text)
+next-byte : (text : List ℕ) (i : ℕ) → i < length text → getD text i 0 ∷ [] ≡ take 1 (drop i text)
 next-byte text i h = sym (ap (take 1) (drop-cons text i 0 h))
 
 -- what holds after i bytes

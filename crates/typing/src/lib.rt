@@ -2,14 +2,14 @@
 // are stored. The functions with a reference to records or to the head move whole values and call functions by value.
 ghost use mathlib.Core.Path.{_≡_};
 ghost use mathlib.Core.List.{[], _∷_};
-ghost use Prim.Native.Nat.{min, _+_, _-_};
+ghost use Prim.Native.Nat.{min};
 ghost use lib.ListN.{length};
 ghost use Rattle.answers.specs.Answers.{answered};
 ghost use Rattle.typing_core.specs.Sides.{sideOf};
 ghost use Rattle.typing_core.specs.Refusals.{headOut, truncateRefusal};
 ghost use Rattle.typing.specs.Steps.{usableOf, endAfter, stateOf, ColumnsReady, Copied, Places, Stored};
 ghost use Rattle.typing.specs.Calls.{Extended, TokenCounted, Truncated};
-ghost use Rattle.typing.specs.Text.{TextTyped, PiecesTyped};
+ghost use Rattle.typing.specs.Text.{TextTyped};
 use causes::Cause;
 use tables::Answer;
 use typing_core::Side;
@@ -342,109 +342,4 @@ pub fn type_text(
         i += 1;
     }
     i
-}
-
-// The lesser of two numbers.
-fn lesser(a: usize, b: usize) -> usize
-    ensures { λ r. ⌜ r ≡ min a b ⌝ }
-{
-    if a < b {
-        return a;
-    }
-    b
-}
-
-// The end of a piece of so many bytes from a place on, within a text of `size` bytes and within 4,096.
-fn piece_end(at: usize, piece: usize, size: usize) -> usize
-    ensures { λ r. ⌜ r ≡ min (min size 4096) (at + piece) ⌝ }
-{
-    let end = lesser(size, 4096);
-    if end < at {
-        return end;
-    }
-    at + lesser(piece, end - at)
-}
-
-// The place so many bytes before another, or the start.
-fn place_back(at: usize, back: usize) -> usize
-    ensures { λ r. ⌜ r ≡ at - back ⌝ }
-{
-    if at < back {
-        return 0;
-    }
-    at - back
-}
-
-// Types the text, up to 4,096 bytes, in pieces into records of its own. Each round takes the last `back` bytes back by truncate, types the byte there by push and
-// the bytes after it, up to the end of the piece, by extend, and writes the count. How many bytes were typed.
-pub fn type_pieces(
-    side: Side,
-    file: &[u8],
-    places: &[u32],
-    lefts: &[u32],
-    rights: &[u32],
-    prefixes: &[u32],
-    area: &[u32],
-    text: &[u8],
-    piece: usize,
-    back: usize,
-    counts: &mut [u32],
-) -> usize
-    ensures { λ r. ⌜ PiecesTyped (now (file .entry)) (now (places .entry)) (now (lefts .entry)) (now (rights .entry)) (now (prefixes .entry)) (now (area .entry)) (sideOf side) (now (text .entry)) piece (now (counts .entry)) r (now (counts .exit)) ⌝ }
-{
-    let mut states: [State; 4096] = [state_from(0, 0, 0); 4096];
-    let mut head = head_with(0);
-    let mut at: usize = 0;
-    let mut k: usize = 0;
-    while k < counts.len() {
-        let end = piece_end(at, piece, text.len());
-        if end == at {
-            return at;
-        }
-        let keep = place_back(at, back);
-        truncate(&mut head, &states, keep);
-        push(
-            side,
-            file,
-            places,
-            lefts,
-            rights,
-            prefixes,
-            area,
-            &mut head,
-            &mut states,
-            text[keep],
-        );
-        let next = keep + 1;
-        let extended = extend(
-            side,
-            file,
-            places,
-            lefts,
-            rights,
-            prefixes,
-            area,
-            &mut head,
-            &mut states,
-            &text[next..end],
-        );
-        if end_after(extended, at) != end {
-            return at;
-        }
-        let counted = token_count(
-            side,
-            file,
-            places,
-            lefts,
-            rights,
-            prefixes,
-            area,
-            &head,
-            &states,
-        );
-        counts[k] = entry_of(counted);
-        at = end;
-        k += 1;
-    }
-    at
 }

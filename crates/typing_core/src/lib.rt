@@ -5,7 +5,7 @@ ghost use lib.ListN.{length};
 ghost use Rattle.built.specs.Built.{dictionaryOf};
 ghost use Rattle.end_code.specs.Tables.{RowReady};
 ghost use Rattle.end_code.specs.Codes.{CodeReady};
-ghost use Rattle.typing_core.specs.Sides.{sideOf};
+ghost use Rattle.typing_core.specs.Sides.{sideOf, sideNumbered};
 ghost use Rattle.typing_core.specs.Columns.{ExtendedColumns, CountedColumns};
 ghost use Rattle.typing_core.specs.Steps.{FillReady, Mirrored, Sizes, endsBytes, EndsReady, PairOf, BesideIs, FollowsReady, FollowsIs, CountReady, CountIs, RecordsReady, RecordReady, RecordIs, RecordsAre, CodeIs, PushReady, Pushed, ExtendReady, ExtendedBy, Checked};
 use causes::Cause;
@@ -19,6 +19,16 @@ use token_pair::is_valid_pair_below;
 pub enum Side {
     Append,
     Prepend,
+}
+
+// The direction by its number, for callers that have no enums: 0 appends, any other number prepends.
+pub fn side_numbered(number: u32) -> Side
+    ensures { λ r. ⌜ r ≡ sideNumbered number ⌝ }
+{
+    if number == 0 {
+        return Side::Append;
+    }
+    Side::Prepend
 }
 
 // The number of bytes of a row.

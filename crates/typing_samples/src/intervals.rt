@@ -44,15 +44,17 @@ fn count_piece(
     )
 }
 
-// Prints the counts of four pieces of "abcd", two of which are refused.
-pub fn say_samples(
+// The count of a piece of "abcd", over tables prepared for it.
+fn count_sample(
     file: &[u8],
     places: &[u32],
     lefts: &[u32],
     rights: &[u32],
     prefixes: &[u32],
     area: &[u32],
-) {
+    start: usize,
+    end: usize,
+) -> Answer {
     let mut codes = [0u32; 201];
     let mut numbers = [0u32; 201];
     let mut ends = [0u32; 201];
@@ -72,81 +74,48 @@ pub fn say_samples(
         &mut depths,
         &mut work,
     );
+    count_piece(
+        file,
+        places,
+        lefts,
+        rights,
+        prefixes,
+        area,
+        b"abcd",
+        &codes,
+        &numbers,
+        &ends,
+        &depths,
+        start,
+        end,
+        &mut work,
+    )
+}
+
+// Prints the counts of four pieces of "abcd", two of which are refused.
+pub fn say_samples(
+    file: &[u8],
+    places: &[u32],
+    lefts: &[u32],
+    rights: &[u32],
+    prefixes: &[u32],
+    area: &[u32],
+) {
     say_answer(
         b"P6 interval 1 to 4:",
-        count_piece(
-            file,
-            places,
-            lefts,
-            rights,
-            prefixes,
-            area,
-            b"abcd",
-            &codes,
-            &numbers,
-            &ends,
-            &depths,
-            1,
-            4,
-            &mut work,
-        ),
+        count_sample(file, places, lefts, rights, prefixes, area, 1, 4),
     );
     say_answer(
         b"P7 interval 2 to 2:",
-        count_piece(
-            file,
-            places,
-            lefts,
-            rights,
-            prefixes,
-            area,
-            b"abcd",
-            &codes,
-            &numbers,
-            &ends,
-            &depths,
-            2,
-            2,
-            &mut work,
-        ),
+        count_sample(file, places, lefts, rights, prefixes, area, 2, 2),
     );
     say_answer(
         b"interval 3 to 2:",
-        count_piece(
-            file,
-            places,
-            lefts,
-            rights,
-            prefixes,
-            area,
-            b"abcd",
-            &codes,
-            &numbers,
-            &ends,
-            &depths,
-            3,
-            2,
-            &mut work,
-        ),
+        count_sample(file, places, lefts, rights, prefixes, area, 3, 2),
     );
     say_answer(
         b"interval 0 to 5:",
-        count_piece(
-            file,
-            places,
-            lefts,
-            rights,
-            prefixes,
-            area,
-            b"abcd",
-            &codes,
-            &numbers,
-            &ends,
-            &depths,
-            0,
-            5,
-            &mut work,
-        ),
+        count_sample(file, places, lefts, rights, prefixes, area, 0, 5),
     );
 }
 

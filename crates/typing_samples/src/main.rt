@@ -8,10 +8,11 @@ mod typing_texts;
 use intervals::all_pieces;
 use said::say_four;
 use said::say_tally;
+use texts::Text;
 use typing_core::Side;
 use typing_texts::by_bytes;
-use typing_texts::by_lengths;
 use typing_texts::by_pieces;
+use words::say;
 
 // P4 and P5.
 fn say_typed(
@@ -49,7 +50,67 @@ fn say_typed(
     say_four(b"P5 prepend d, c, b, a:", &counts);
 }
 
-// A text of 4,096 letters, typed byte by byte and in pieces. Pieces of 1, 7, 64 and 1,000 bytes give 4,096 + 586 + 64 + 5 = 4,751 counts.
+// A text typed on one side, byte by byte into records and in pieces over columns.
+fn type_side(
+    side: Side,
+    name: &[u8],
+    file: &[u8],
+    places: &[u32],
+    lefts: &[u32],
+    rights: &[u32],
+    prefixes: &[u32],
+    area: &[u32],
+    text: &Text,
+    mirror: &Text,
+) {
+    say(name);
+    say_tally(
+        b" byte by byte:",
+        by_bytes(
+            side,
+            file,
+            places,
+            lefts,
+            rights,
+            prefixes,
+            area,
+            text,
+            mirror,
+        ),
+    );
+    say(name);
+    say_tally(
+        b" in pieces:",
+        by_pieces(
+            side,
+            file,
+            places,
+            lefts,
+            rights,
+            prefixes,
+            area,
+            text,
+            false,
+        ),
+    );
+    say(name);
+    say_tally(
+        b" in pieces, halves taken back:",
+        by_pieces(
+            side,
+            file,
+            places,
+            lefts,
+            rights,
+            prefixes,
+            area,
+            text,
+            true,
+        ),
+    );
+}
+
+// A text of 4,096 letters, appended and prepended.
 fn type_long(
     file: &[u8],
     places: &[u32],
@@ -63,151 +124,29 @@ fn type_long(
     let mut mirror = [0u8; 4096];
     texts::draw(&mut drawn, 1);
     texts::put_piece(&mut text, &mut mirror, 0, &drawn);
-    say_tally(
-        b"append byte by byte:",
-        by_bytes(
-            Side::Append,
-            file,
-            places,
-            lefts,
-            rights,
-            prefixes,
-            area,
-            &text,
-            &mirror,
-            4096,
-        ),
+    type_side(
+        Side::Append,
+        b"append",
+        file,
+        places,
+        lefts,
+        rights,
+        prefixes,
+        area,
+        &text,
+        &mirror,
     );
-    say_tally(
-        b"prepend byte by byte:",
-        by_bytes(
-            Side::Prepend,
-            file,
-            places,
-            lefts,
-            rights,
-            prefixes,
-            area,
-            &text,
-            &mirror,
-            4096,
-        ),
-    );
-    say_tally(
-        b"append in pieces of 1, 7, 64 and 1000:",
-        by_lengths(
-            Side::Append,
-            file,
-            places,
-            lefts,
-            rights,
-            prefixes,
-            area,
-            &text,
-            &mirror,
-            0,
-        ),
-    );
-    say_tally(
-        b"prepend in pieces of 1, 7, 64 and 1000:",
-        by_lengths(
-            Side::Prepend,
-            file,
-            places,
-            lefts,
-            rights,
-            prefixes,
-            area,
-            &text,
-            &mirror,
-            0,
-        ),
-    );
-    say_tally(
-        b"append in pieces of 1, 7, 64 and 1000, 5 bytes taken back:",
-        by_lengths(
-            Side::Append,
-            file,
-            places,
-            lefts,
-            rights,
-            prefixes,
-            area,
-            &text,
-            &mirror,
-            5,
-        ),
-    );
-    say_tally(
-        b"prepend in pieces of 1, 7, 64 and 1000, 5 bytes taken back:",
-        by_lengths(
-            Side::Prepend,
-            file,
-            places,
-            lefts,
-            rights,
-            prefixes,
-            area,
-            &text,
-            &mirror,
-            5,
-        ),
-    );
-    say_tally(
-        b"append in pieces:",
-        by_pieces(
-            Side::Append,
-            file,
-            places,
-            lefts,
-            rights,
-            prefixes,
-            area,
-            &text,
-            false,
-        ),
-    );
-    say_tally(
-        b"prepend in pieces:",
-        by_pieces(
-            Side::Prepend,
-            file,
-            places,
-            lefts,
-            rights,
-            prefixes,
-            area,
-            &text,
-            false,
-        ),
-    );
-    say_tally(
-        b"append in pieces, halves taken back:",
-        by_pieces(
-            Side::Append,
-            file,
-            places,
-            lefts,
-            rights,
-            prefixes,
-            area,
-            &text,
-            true,
-        ),
-    );
-    say_tally(
-        b"prepend in pieces, halves taken back:",
-        by_pieces(
-            Side::Prepend,
-            file,
-            places,
-            lefts,
-            rights,
-            prefixes,
-            area,
-            &text,
-            true,
-        ),
+    type_side(
+        Side::Prepend,
+        b"prepend",
+        file,
+        places,
+        lefts,
+        rights,
+        prefixes,
+        area,
+        &text,
+        &mirror,
     );
 }
 

@@ -1,16 +1,11 @@
 // What is printed, and how many answers differ.
 use tables::Answer;
+use words::fields::say_field;
 use words::say;
 use words::wide;
 
 // How many answers were compared, and how many of them differed.
 pub type Tally = [u64; 2];
-
-// Prints a space and a number.
-pub fn say_field(n: u64) {
-    say(b" ");
-    words::say_number(n);
-}
 
 // The first four numbers.
 pub fn say_four(name: &[u8], counts: &[u32; 4096]) {

@@ -57,7 +57,7 @@ fn count_typed(
     }
 }
 
-// Compares each number, one for each piece, with `count` of the bytes typed so far.
+// Compares each number, one for each byte, with `count` of the bytes typed so far.
 fn compare_all(
     side: Side,
     file: &[u8],
@@ -68,15 +68,14 @@ fn compare_all(
     area: &[u32],
     text: &Text,
     mirror: &Text,
-    piece: usize,
     counts: &[u32],
     work: &mut Numbers,
     tally: &mut Tally,
 ) {
-    let mut len = 0;
     let mut i = 0;
     while i < counts.len() {
-        len = std::num::wrapping_add_usize(len, piece);
+        let count = wide(counts[i]);
+        i += 1;
         let wanted = count_typed(
             side,
             file,
@@ -87,15 +86,14 @@ fn compare_all(
             area,
             text,
             mirror,
-            len,
+            i,
             work,
         );
-        compare(tally, wide(counts[i]), wanted);
-        i += 1;
+        compare(tally, count, wanted);
     }
 }
 
-// Types the first `len` bytes of a text, one after the other, and compares the count after each.
+// Types a text, one byte after the other, into records, and compares the count after each.
 pub fn by_bytes(
     side: Side,
     file: &[u8],
@@ -106,12 +104,10 @@ pub fn by_bytes(
     area: &[u32],
     text: &Text,
     mirror: &Text,
-    len: usize,
 ) -> Tally {
     let mut counts = [0u32; 4096];
     let mut work = [0u32; 4096];
     let mut tally = [0u64; 2];
-    let bytes = part(text, 0, len);
     let end = typing::type_text(
         side,
         file,
@@ -120,7 +116,7 @@ pub fn by_bytes(
         rights,
         prefixes,
         area,
-        bytes,
+        text,
         &mut counts,
     );
     compare_all(
@@ -133,140 +129,8 @@ pub fn by_bytes(
         area,
         text,
         mirror,
-        1,
         front_numbers(&counts, end),
         &mut work,
-        &mut tally,
-    );
-    tally
-}
-
-// In how many rounds so many bytes are typed.
-fn rounds(bytes: usize, piece: usize) -> usize {
-    if bytes == 0 {
-        return 0;
-    }
-    if piece == 0 {
-        return 0;
-    }
-    std::num::wrapping_add_usize((bytes - 1) / piece, 1)
-}
-
-// Types a text into records in pieces of so many bytes, with so many bytes taken back before each piece and typed again, and compares the count after each piece.
-fn by_rounds(
-    side: Side,
-    file: &[u8],
-    places: &[u32],
-    lefts: &[u32],
-    rights: &[u32],
-    prefixes: &[u32],
-    area: &[u32],
-    text: &Text,
-    mirror: &Text,
-    piece: usize,
-    back: usize,
-    tally: &mut Tally,
-) {
-    let mut counts = [0u32; 4096];
-    let mut work = [0u32; 4096];
-    let end = typing::type_pieces(
-        side,
-        file,
-        places,
-        lefts,
-        rights,
-        prefixes,
-        area,
-        text,
-        piece,
-        back,
-        &mut counts,
-    );
-    compare_all(
-        side,
-        file,
-        places,
-        lefts,
-        rights,
-        prefixes,
-        area,
-        text,
-        mirror,
-        piece,
-        front_numbers(&counts, rounds(end, piece)),
-        &mut work,
-        tally,
-    );
-}
-
-// Types a text in pieces of 1, 7, 64 and 1,000 bytes, with so many bytes taken back before each piece.
-pub fn by_lengths(
-    side: Side,
-    file: &[u8],
-    places: &[u32],
-    lefts: &[u32],
-    rights: &[u32],
-    prefixes: &[u32],
-    area: &[u32],
-    text: &Text,
-    mirror: &Text,
-    back: usize,
-) -> Tally {
-    let mut tally = [0u64; 2];
-    by_rounds(
-        side,
-        file,
-        places,
-        lefts,
-        rights,
-        prefixes,
-        area,
-        text,
-        mirror,
-        1,
-        back,
-        &mut tally,
-    );
-    by_rounds(
-        side,
-        file,
-        places,
-        lefts,
-        rights,
-        prefixes,
-        area,
-        text,
-        mirror,
-        7,
-        back,
-        &mut tally,
-    );
-    by_rounds(
-        side,
-        file,
-        places,
-        lefts,
-        rights,
-        prefixes,
-        area,
-        text,
-        mirror,
-        64,
-        back,
-        &mut tally,
-    );
-    by_rounds(
-        side,
-        file,
-        places,
-        lefts,
-        rights,
-        prefixes,
-        area,
-        text,
-        mirror,
-        1000,
-        back,
         &mut tally,
     );
     tally

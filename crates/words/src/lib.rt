@@ -1,4 +1,5 @@
 // Words, lines and numbers of a byte text, and what the programs print.
+pub mod fields;
 mod numbers;
 mod parts;
 mod saying;

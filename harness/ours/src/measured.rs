@@ -122,8 +122,9 @@ mod ffi {
     }
 
     declare! {
-        measured_append(typed: *const u8, typed_len: usize, bytes: *mut u8, codes: *mut u32, counts: *mut u32);
-        measured_prepend(typed: *const u8, typed_len: usize, bytes: *mut u8, codes: *mut u32, counts: *mut u32);
+        measured_extend(
+            side: u32, typed: *const u8, typed_len: usize, bytes: *mut u8, codes: *mut u32, counts: *mut u32
+        );
     }
 }
 
@@ -307,10 +308,7 @@ impl<'a> Checked<'a> {
         let Columns { bytes, codes, counts } = columns;
         let (bytes, codes, last) = (bytes.as_mut_ptr(), codes.as_mut_ptr(), counts.as_mut_ptr());
         let (text_at, size) = (text.as_ptr(), text.len());
-        let typed = match side {
-            Side::Append => over!(self.tables, measured_append, text_at, size, bytes, codes, last),
-            Side::Prepend => over!(self.tables, measured_prepend, text_at, size, bytes, codes, last),
-        };
+        let typed = over!(self.tables, measured_extend, side.number(), text_at, size, bytes, codes, last);
         assert_eq!(typed, Ok(size as u32));
         counts[size - 1]
     }

@@ -24,47 +24,44 @@ pub enum Side {
     Prepend,
 }
 
+impl Side {
+    /// The side's number in the C interface.
+    pub(crate) fn number(self) -> u32 {
+        match self {
+            Side::Append => 0,
+            Side::Prepend => 1,
+        }
+    }
+}
+
 mod ffi {
     use super::{Head, State};
 
     declare! {
-        bpe_append_push(byte: u8, head: *mut Head, states: *mut State, states_len: usize);
-        bpe_prepend_push(byte: u8, head: *mut Head, states: *mut State, states_len: usize);
-        bpe_append_extend(bytes: *const u8, bytes_len: usize, head: *mut Head, states: *mut State, states_len: usize);
-        bpe_prepend_extend(bytes: *const u8, bytes_len: usize, head: *mut Head, states: *mut State, states_len: usize);
-        bpe_append_token_count(head: *const Head, states: *const State, states_len: usize);
-        bpe_prepend_token_count(head: *const Head, states: *const State, states_len: usize);
+        bpe_push(side: u32, byte: u8, head: *mut Head, states: *mut State, states_len: usize);
+        bpe_extend(
+            side: u32, bytes: *const u8, bytes_len: usize, head: *mut Head, states: *mut State, states_len: usize
+        );
+        bpe_token_count(side: u32, head: *const Head, states: *const State, states_len: usize);
     }
 
     extern "C" {
-        pub fn bpe_append_truncate(keep: usize, head: *mut Head, states: *const State, states_len: usize) -> u64;
-        pub fn bpe_prepend_truncate(keep: usize, head: *mut Head, states: *const State, states_len: usize) -> u64;
+        pub fn bpe_truncate(keep: usize, head: *mut Head, states: *const State, states_len: usize) -> u64;
     }
-}
-
-/// Calls the function of a side.
-macro_rules! by_side {
-    ($side:expr, $tables:expr, $append:ident, $prepend:ident $(, $argument:expr)*) => {
-        match $side {
-            Side::Append => over!($tables, $append $(, $argument)*),
-            Side::Prepend => over!($tables, $prepend $(, $argument)*),
-        }
-    };
 }
 
 impl Tables<'_> {
     /// Types one byte; the new length.
     pub fn push(&self, side: Side, byte: u8, head: &mut Head, states: &mut [State]) -> Answer<u32> {
-        by_side!(side, self, bpe_append_push, bpe_prepend_push, byte, head, states.as_mut_ptr(), states.len())
+        over!(self, bpe_push, side.number(), byte, head, states.as_mut_ptr(), states.len())
     }
 
     /// Types bytes, the first one first, all or none; the new length.
     pub fn extend(&self, side: Side, bytes: &[u8], head: &mut Head, states: &mut [State]) -> Answer<u32> {
-        by_side!(
-            side,
+        over!(
             self,
-            bpe_append_extend,
-            bpe_prepend_extend,
+            bpe_extend,
+            side.number(),
             bytes.as_ptr(),
             bytes.len(),
             head,
@@ -75,16 +72,11 @@ impl Tables<'_> {
 
     /// The number of codes of the bytes typed.
     pub fn token_count(&self, side: Side, head: &Head, states: &[State]) -> Answer<u32> {
-        by_side!(side, self, bpe_append_token_count, bpe_prepend_token_count, head, states.as_ptr(), states.len())
+        over!(self, bpe_token_count, side.number(), head, states.as_ptr(), states.len())
     }
 }
 
-/// Keeps the first so many bytes typed; the new length.
-pub fn truncate(side: Side, keep: usize, head: &mut Head, states: &[State]) -> Answer<u32> {
-    unpacked(unsafe {
-        match side {
-            Side::Append => ffi::bpe_append_truncate(keep, head, states.as_ptr(), states.len()),
-            Side::Prepend => ffi::bpe_prepend_truncate(keep, head, states.as_ptr(), states.len()),
-        }
-    })
+/// Keeps the first so many bytes typed, on either side; the new length.
+pub fn truncate(keep: usize, head: &mut Head, states: &[State]) -> Answer<u32> {
+    unpacked(unsafe { ffi::bpe_truncate(keep, head, states.as_ptr(), states.len()) })
 }

@@ -1,25 +1,18 @@
 -- The count of numbers left falls. Assumes nothing.
 use Prim.Native.Nat.{_≤_, _-_}
 use lib.ListN.{length}
-use native.Mathlib.Omega.{arith}
 use borrow.Author.Needs.{needs}
 use Rattle.typing_samples.proofs.typing_texts.compare_all.Statement.{statement}
 use Rattle.typing_samples.proofs.typing_texts.compare_all.Tie as tie
 
 abbrev Inv-loop : tie.InvT-loop
-Inv-loop side file places lefts rights prefixes area text mirror piece counts work₀ tally₀ len₀ i₀ work tally len i = i ≤ length counts
+Inv-loop side file places lefts rights prefixes area text mirror counts work₀ tally₀ i₀ work tally i = i ≤ length counts
 
 abbrev μ-loop : tie.MeasureT-loop
-μ-loop side file places lefts rights prefixes area text mirror piece counts work₀ tally₀ len₀ i₀ work tally len i = length counts - i
+μ-loop side file places lefts rights prefixes area text mirror counts work₀ tally₀ i₀ work tally i = length counts - i
 
 loop-holds : tie.Need-loop-holds Inv-loop μ-loop
 loop-holds c = search needs
-
-wrapping-add-usize-requires : tie.Need-wrapping-add-usize-requires Inv-loop μ-loop
-wrapping-add-usize-requires c κs = search needs
-
-count-typed-requires : tie.Need-count-typed-requires Inv-loop μ-loop
-count-typed-requires c κs = search needs
 
 mul-wide : tie.Need-mul-wide Inv-loop μ-loop
 mul-wide c = search needs
@@ -30,11 +23,14 @@ shared-slice-read-wide c = search needs
 wide-requires : tie.Need-wide-requires Inv-loop μ-loop
 wide-requires c κs = search needs
 
+add-i : tie.Need-add-i Inv-loop μ-loop
+add-i c = search needs
+
+count-typed-requires : tie.Need-count-typed-requires Inv-loop μ-loop
+count-typed-requires c κs = search needs
+
 compare-requires : tie.Need-compare-requires Inv-loop μ-loop
 compare-requires c κs = search needs
-
-add-i : tie.Need-add-i Inv-loop μ-loop
-add-i c = omega (arith, c .before .before .before .before .before .before .before .loop-test .taken, c .before .before .before .before .before .before .before .before .before .before .before .before .before .before .before .before .good)
 
 loop-less : tie.Need-loop-less Inv-loop μ-loop
 loop-less c = search needs
@@ -52,13 +48,12 @@ compare-all-spec =
     Inv-loop
     μ-loop
     loop-holds
-    wrapping-add-usize-requires
-    count-typed-requires
     mul-wide
     shared-slice-read-wide
     wide-requires
-    compare-requires
     add-i
+    count-typed-requires
+    compare-requires
     loop-less
     loop-again
     returns)

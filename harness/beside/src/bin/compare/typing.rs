@@ -129,7 +129,7 @@ fn play(sides: &Sides, list: &List, seen: &mut Seen) -> Result<Typed, String> {
         let answer = match step {
             Step::Push(byte) => tables.push(side, *byte, head, typed.states.part()),
             Step::Extend(bytes) => tables.extend(side, bytes, head, typed.states.part()),
-            Step::Truncate(keep) => truncate(side, *keep, head, typed.states.get()),
+            Step::Truncate(keep) => truncate(*keep, head, typed.states.get()),
             Step::TokenCount => tables.token_count(side, head, typed.states.get()),
         };
         let refusal = match step {

@@ -1,0 +1,8 @@
+// Works through the edges of the bit set and the published vectors of the hash.
+mod bits;
+mod vectors;
+
+fn main() {
+    bits::work_through();
+    vectors::work_through();
+}

@@ -1,0 +1,31 @@
+-- The packed answer of a typing call for the side that the caller's number names. Assumes nothing.
+use mathlib.Core.Path.{_≡_, subst}
+use mathlib.Core.List.{List}
+use Prim.Native.Nat.{ℕ}
+use Rattle.tables.specs.declared.Answer.{Answer}
+use Rattle.answers.specs.Answers.{answerOf}
+use Rattle.typing_core.specs.Sides.{sideOf}
+use Rattle.typing_core.specs.declared.Side.{Side}
+use Rattle.typing.specs.declared.State.{State}
+use Rattle.typing.specs.Calls.{Extended, TokenCounted}
+use Rattle.exports.specs.Packed.{packedOf, Packs}
+
+module _ {file places lefts rights prefixes area : List ℕ} {side named : Side} {len : ℕ} {states : List State} {a : Answer} {r : ℕ} where
+  -- push and extend
+  pub extended : {typed : List ℕ} {len' : ℕ} {states' : List State} → side ≡ named
+      → Extended file places lefts rights prefixes area (sideOf side) len states typed a len' states' → r ≡ packedOf (answerOf a)
+      → Packs answerOf (λ (x : Answer). Extended file places lefts rights prefixes area (sideOf named) len states typed x len' states') r
+  extended {typed} {len'} {states'} e met is = record {
+    answer = a;
+    met = subst (λ (x : Side). Extended file places lefts rights prefixes area (sideOf x) len states typed a len' states') e met;
+    is = is;
+  }
+
+  -- `token_count`
+  pub token-counted : side ≡ named → TokenCounted file places lefts rights prefixes area (sideOf side) len states a → r ≡ packedOf (answerOf a)
+      → Packs answerOf (λ (x : Answer). TokenCounted file places lefts rights prefixes area (sideOf named) len states x) r
+  token-counted e met is = record {
+    answer = a;
+    met = subst (λ (x : Side). TokenCounted file places lefts rights prefixes area (sideOf x) len states a) e met;
+    is = is;
+  }

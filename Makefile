@@ -1,12 +1,40 @@
-# Both commands need the Rattle kit (rt) on the PATH, and nothing else.
-.PHONY: demo test
+# demo and test need the Rattle kit (rt) on the PATH and nothing else; edits, times, census and carry also python3.
+.PHONY: help demo test edits times census carry carry-check
+
+# See .ci/run.
+export RT_JOBS ?= $(shell echo $$((2 * $$(nproc))))
+
+help:
+	@echo "make demo         the main job: from the season's sheet to a page; proves the library first"
+	@echo "make test         the gate: every crate proved from nothing, every must-fail edit of the gate refused, every program run"
+	@echo "make edits        the long list of must-fail edits (CRATE=NAME: those of one crate); goes on where it was interrupted"
+	@echo "make times        seconds by crate of the last make test: proof and edits"
+	@echo "make census       the must-fail edits by public call, and which of document 01's wrong programs each one shows"
+	@echo "make carry        makes the carried derivations of typing and exports again"
+	@echo "make carry-check  makes them under target/ and compares"
 
 # The main job: builds the tool, makes the season's phrase file, checks it, encodes a message and writes its page.
 demo:
-	@echo "proving the library and building the tool (some minutes from nothing) ..."
-	@rt check phrases > /dev/null || { echo "rt check phrases failed: run it to see where"; exit 1; }
+	@echo "proving the library and building the tool: some six minutes from nothing on two cores"
+	@sh tools/prove.sh phrases
 	@sh tools/demo.sh
 
 # The gate.
 test:
-	@rt ci
+	@sh .ci/run
+
+edits:
+	@sh tools/prove.sh $(CRATE)
+	@python3 tools/edits.py $(CRATE)
+
+times:
+	@python3 tools/times.py
+
+census:
+	@python3 tools/census.py
+
+carry:
+	@sh tools/carry/all.sh
+
+carry-check:
+	@sh tools/carry/all.sh check

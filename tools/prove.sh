@@ -24,7 +24,7 @@ began=$(date +%s)
     while IFS= read -r line; do
         printf '%s\n' "$line" >> target/prove.log
         case $line in
-        'rt: '*' proved'*)
+        'rt: '*' proved ('*)
             name=${line#rt: } done=$((done + 1))
             now=$(($(date +%s) - began))
             printf 'proved %d of %d: %s (%d min %02d s so far)\n' "$done" "$all" "${name%% *}" $((now / 60)) $((now % 60))

@@ -272,7 +272,7 @@ fn compare_damaged(
         same!(counted, out(form).map_or(Ok(count), Err), "token_count, {what}");
         let keep = random.below(12);
         let mut shortened = typed.head;
-        let answer = truncate(side, keep, &mut shortened, typed.states.get());
+        let answer = truncate(keep, &mut shortened, typed.states.get());
         same!(answer, out(head_fine).map_or(Ok(len.min(keep) as u32), Err), "truncate, {what}");
         same!(shortened.len, if head_fine { len.min(keep) } else { len }, "truncate's head, {what}");
         let more = if random.once_in(50) { 4097 } else { random.below(4) };

@@ -1,14 +1,15 @@
 #!/usr/bin/env python3
-"""The must-fail edits by public call, and which edit shows each wrong program that document 01 names. An edit of the gate says in its
-first lines what it is an edit of ('call: NAME') and, where it is one of document 01's, which ('shows: WORDS'). Says what is missing:
-a public call with fewer than two edits of its program, a wrong program that no edit of a program shows."""
+"""The must-fail edits by public call, and which edit shows each wrong program that document 01 names. An edit of the
+gate says in its first lines what it is an edit of ('call: NAME') and, where it is one of document 01's, which ('shows:
+WORDS'). Says what is missing: a public call with fewer than two edits of its program, a wrong program that no edit of a
+program shows."""
 import glob, sys
 
 CALLS = [
-    'from_dictionary', 'is_valid_token_pair', 'num_tokens', 'token_len', 'token_bytes', 'decode_tokens', 'encode_via_bitfield',
-    'encode_via_backtracking', 'encode_via_table', 'encode_minimal', 'encode_greedy', 'count', 'count_till_limit', 'push', 'extend',
-    'truncate', 'token_count', 'prepare', 'interval count', 'BitField::new', 'BitField::is_set', 'BitField::clear',
-    'BitField::successor', 'BitField::predecessor',
+    'from_dictionary', 'is_valid_token_pair', 'num_tokens', 'token_len', 'token_bytes', 'decode_tokens',
+    'encode_via_bitfield', 'encode_via_backtracking', 'encode_via_table', 'encode_minimal', 'encode_greedy', 'count',
+    'count_till_limit', 'push', 'extend', 'truncate', 'token_count', 'prepare', 'interval count', 'BitField::new',
+    'BitField::is_set', 'BitField::clear', 'BitField::successor', 'BitField::predecessor',
 ]
 WRONG = [
     'condition 3, push that does its first byte truly and copies that record afterwards',
@@ -39,22 +40,38 @@ for file in glob.glob('crates/*/must-fail/long/*.edit'):
     long[crate] = long.get(crate, 0) + 1
 
 missing = [f'{name} has no call: line' for name, call, _, _ in edits if not call]
-print('| public call | wrong programs in the gate |\n|---|---|')
+
+
+def table(head, rows):
+    """a row for each name; what it belongs to stands in the first of its rows"""
+    print(f'| {head} | edits of the gate |\n|---|---|')
+    for what, names in rows:
+        for k, name in enumerate(names or ['']):
+            print(f'| {"" if k else what} | {name} |')
+    print()
+
+
+rows = []
 for call in CALLS:
     of_call = [(name, program) for name, c, _, program in edits if c == call]
     if sum(program for _, program in of_call) < 2:
         missing.append(f'{call} has fewer than two edits of its program')
-    print(f'| {call} | {", ".join(name for name, _ in of_call)} |')
-print('\n| definition or function beside them | edits in the gate |\n|---|---|')
-for call in sorted({c for _, c, _, _ in edits if c not in CALLS}):
-    print(f'| {call} | {", ".join(name for name, c, _, _ in edits if c == call)} |')
-print('\n| wrong program of document 01 | edit of the program that shows it |\n|---|---|')
-for wrong in WRONG:
-    shown = [name for name, _, shows, program in edits if program and shows.startswith(wrong)]
-    if not shown:
-        missing.append(f'no edit of a program shows: {wrong}')
-    print(f'| {wrong} | {", ".join(shown)} |')
-print('\n| crate | in the gate | in the long list |\n|---|---|---|')
+    rows.append((call, [name for name, _ in of_call]))
+table('public call', rows)
+
+others = sorted({c for _, c, _, _ in edits if c not in CALLS})
+table('definition or function beside them', [(o, [name for name, c, _, _ in edits if c == o]) for o in others])
+
+for kind, head in (('condition 3', "wrong program of document 01's condition 3"), ('trap', 'trap of document 01')):
+    rows = []
+    for wrong in (w for w in WRONG if w.startswith(kind)):
+        shown = [name for name, _, shows, program in edits if program and shows.startswith(wrong)]
+        if not shown:
+            missing.append(f'no edit of a program shows: {wrong}')
+        rows.append((wrong[len(kind) + 2:], shown))
+    table(head, rows)
+
+print('| crate | in the gate | in the long list |\n|---|---|---|')
 gate = {}
 for name, _, _, _ in edits:
     gate[name.split('/')[0]] = gate.get(name.split('/')[0], 0) + 1

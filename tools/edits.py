@@ -1,13 +1,14 @@
 #!/usr/bin/env python3
 """The long list of must-fail edits: each is applied to a copy of its crate, and the prover must refuse the copy.
 
-edits.py [CRATE..]        crates/NAME/must-fail/long/*.edit of these crates, or of all; run `rt check` first (`make edits` does)
-edits.py CRATE/LABEL..    these edits, of the long list or of the gate: quick while one is written; what was said is in target/edits/log/
+edits.py [CRATE..]        crates/NAME/must-fail/long/*.edit of these crates, or of all
+edits.py CRATE/LABEL..    these edits, of the long list or of the gate: quick while one is written
 
-An edit has lines 'file: PATH', 'old: TEXT' and 'new: TEXT', as those in must-fail/, which `rt ci` tries. A copy starts from what was
-checked of its crate without the edit, so that only what the edit reaches is proved again; the edited part and all above it is.
-A result stands in target/edits/ beside a hash of the edit, its crate and all below it: what was refused and has not changed since is
-not tried again, so a run that was interrupted goes on where it was. The last line is 'N refused, 0 survived'.
+Run `rt check` first (`make edits` does). An edit has lines 'file: PATH', 'old: TEXT' and 'new: TEXT', as those in
+must-fail/, which `rt ci` tries. A copy starts from what was checked of its crate without the edit, so that only what the
+edit reaches is proved again; what the prover said is in target/edits/log/. A result stands in target/edits/ beside a
+hash of the edit, its crate and all below it: what was refused and has not changed since is not tried again, so a run
+that was interrupted goes on where it was. The last line is 'N refused, 0 survived'.
 """
 import hashlib, os, re, shutil, subprocess, sys, threading, time
 
@@ -166,7 +167,8 @@ def main():
                 if verdict != 'refused':
                     survived.append(f'{crate}/{label}')
                 minutes = (time.time() - began) / tried * (len(edits) - done) / 60
-                print(f'edits: {done} of {len(edits)}, {minutes:.0f} min left: {crate}/{label} {verdict} ({why}; {took:.0f} s)', flush=True)
+                where = f'{done} of {len(edits)}, {minutes:.0f} min left'
+                print(f'edits: {where}: {crate}/{label} {verdict} ({why}; {took:.0f} s)', flush=True)
 
     jobs = int(os.environ.get('RT_JOBS') or min(os.cpu_count() or 1, 4))
     workers = [threading.Thread(target=work) for _ in range(jobs)]

@@ -1,6 +1,7 @@
 #!/bin/sh
-# prove.sh [NAME..] : `rt check` of the named crates and what they stand on, or of all, with a line for each crate: which, how many of how
-# many, and the minutes so far. What rt says in full stands in target/prove.log. Run at the top of the repository.
+# prove.sh [NAME..] : `rt check` of the named crates and what they stand on, or of all, with a line for each crate: which,
+# how many of how many, and the minutes so far. What rt says in full stands in target/prove.log. Run at the top of the
+# repository.
 set -u
 all=$(WANTED="$*" awk '
     function reach(n,    a, k, m) {
@@ -27,7 +28,8 @@ began=$(date +%s)
         'rt: '*' proved ('*)
             name=${line#rt: } done=$((done + 1))
             now=$(($(date +%s) - began))
-            printf 'proved %d of %d: %s (%d min %02d s so far)\n' "$done" "$all" "${name%% *}" $((now / 60)) $((now % 60))
+            so_far=$(printf '%d min %02d s so far' $((now / 60)) $((now % 60)))
+            echo "proved $done of $all: ${name%% *} ($so_far)"
             ;;
         'status '*) status=${line#status } ;;
         esac

@@ -1,7 +1,7 @@
 #!/usr/bin/env python3
-"""Seconds by crate of the last `rt ci` (or `rt prove`, without edits), from what rt left in target/: each crate's proof, how many
-must-fail edits it has in the gate, and their seconds. The gate works on as many at once as RT_JOBS says, so its time is about the sum
-divided by that."""
+"""Seconds by crate of the last `rt ci` (or `rt prove`, without edits), from what rt left in target/: each crate's proof,
+how many must-fail edits it has in the gate, and their seconds. The gate works on as many at once as RT_JOBS says, so its
+time is about the sum divided by that."""
 import glob, re
 
 rows = []

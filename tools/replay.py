@@ -1,4 +1,4 @@
-"""What the programs `samples` and `replay` have to print for a list of commands, by the model of document 01.
+"""What the program `samples` has to print for a list of commands, by the model of document 01.
 
     python3 tools/replay.py < crates/samples/stdin > crates/samples/stdout
 """

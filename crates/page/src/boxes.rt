@@ -75,13 +75,18 @@ fn put_heading(out: &mut [u8], at: usize, before: usize, left: usize) -> usize {
     if 40 <= left {
         return put_all(out, end, b": 40 codes, full</h2>\n<p>\n");
     }
-    end = put_all(out, end, b": ");
+    put_last(out, end, left)
+}
+
+// The same of a burst with fewer than 40 codes: how many it has and how many more it could have.
+fn put_last(out: &mut [u8], at: usize, left: usize) -> usize {
+    let mut end = put_all(out, at, b": ");
     end = put_number(out, end, left as u64);
     if left == 1 {
         return put_all(out, end, b" code, 39 left</h2>\n<p>\n");
     }
     end = put_all(out, end, b" codes, ");
-    end = put_number(out, end, (40 - left) as u64);
+    end = put_number(out, end, std::num::wrapping_sub_usize(40, left) as u64);
     put_all(out, end, b" left</h2>\n<p>\n")
 }
 

@@ -121,6 +121,14 @@ fn put_single(out: &mut [u8], at: usize, byte: u8) -> usize {
     if byte == b' ' {
         return put_all(out, at, b"<u> </u>");
     }
+    if within(byte, 0x21, 0x7e) {
+        return put_printable(out, at, byte);
+    }
+    put_escape(out, at, byte)
+}
+
+// A printable one.
+fn put_printable(out: &mut [u8], at: usize, byte: u8) -> usize {
     if byte == b'&' {
         return put_all(out, at, b"&amp;");
     }
@@ -130,10 +138,7 @@ fn put_single(out: &mut [u8], at: usize, byte: u8) -> usize {
     if byte == b'>' {
         return put_all(out, at, b"&gt;");
     }
-    if within(byte, 0x21, 0x7e) {
-        return put(out, at, byte);
-    }
-    put_escape(out, at, byte)
+    put(out, at, byte)
 }
 
 // Where showing stands: the place in the page, and how many bytes of a character that has begun are still to come.

@@ -156,6 +156,44 @@ fn run_text(
     }
 }
 
+// The commands over a text or codes that are to be read.
+fn run_given(
+    command: &[u8],
+    line: &[u8],
+    file: &[u8],
+    places: &Table,
+    lefts: &Table,
+    rights: &Table,
+    prefixes: &Table,
+    area: &Area,
+    input: i32,
+) {
+    if is(command, b"decode") {
+        run_decode(
+            file,
+            places,
+            lefts,
+            rights,
+            prefixes,
+            area,
+            word(line, 2),
+            input,
+        );
+        return;
+    }
+    run_text(
+        command,
+        line,
+        file,
+        places,
+        lefts,
+        rights,
+        prefixes,
+        area,
+        input,
+    );
+}
+
 // The commands over an accepted phrase file, which stands at the front of a buffer.
 fn run_built(
     command: &[u8],
@@ -188,20 +226,7 @@ fn run_built(
         );
         return;
     }
-    if is(command, b"decode") {
-        run_decode(
-            file,
-            places,
-            lefts,
-            rights,
-            prefixes,
-            area,
-            word(line, 2),
-            input,
-        );
-        return;
-    }
-    run_text(
+    run_given(
         command,
         line,
         file,
@@ -291,6 +316,11 @@ fn run_other(command: &[u8], line: &[u8], given: usize, input: i32, each: bool) 
         }
         return true;
     }
+    run_making(command, line, given)
+}
+
+// Does one of the commands that make or check a phrase file, if it is one.
+fn run_making(command: &[u8], line: &[u8], given: usize) -> bool {
     if is(command, b"check") {
         if takes(command, b"FILE [FACTOR]", 1, 2, given) {
             file_commands::check(word(line, 1), word(line, 2), 2 <= given);

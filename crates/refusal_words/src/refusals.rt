@@ -36,34 +36,38 @@ pub fn say_row(file: &[u8], row: usize) {
     say_quoted(bytes_of(file, row));
 }
 
+// A byte of the file, or the one that is wanted where the file has ended.
+fn byte_or(file: &[u8], at: usize, wanted: u8) -> u8 {
+    if at < file.len() {
+        return file[at];
+    }
+    wanted
+}
+
+// Whether the record at an offset has a wrong mark, as far as the file goes.
+fn is_unmarked(file: &[u8], at: usize) -> bool {
+    if byte_or(file, at, 0xc7) != 0xc7 {
+        return true;
+    }
+    byte_or(file, std::num::wrapping_add_usize(at, 1), 0x51) != 0x51
+}
+
+// A wrong length byte.
+fn say_length(size: u8) {
+    say(b"the length byte is ");
+    say_number(wide_byte(size));
+    say(b" and not 1 to 64");
+}
+
 // Cause 2: which part of the record at an offset is wrong.
 fn say_record(file: &[u8], at: usize) {
-    if file.len() <= at {
-        say(b"the file has more than 65536 bytes");
-        return;
-    }
-    let left = file.len() - at;
-    if file[at] != 0xc7 {
+    if is_unmarked(file, at) {
         say(b"the mark is missing");
         return;
     }
-    if left < 2 {
-        say(b"the file ends inside a record");
-        return;
-    }
-    if file[at + 1] != 0x51 {
-        say(b"the mark is missing");
-        return;
-    }
-    if left < 3 {
-        say(b"the file ends inside a record");
-        return;
-    }
-    let size = file[at + 2];
+    let size = byte_or(file, std::num::wrapping_add_usize(at, 2), 1);
     if size < 1 || 64 < size {
-        say(b"the length byte is ");
-        say_number(wide_byte(size));
-        say(b" and not 1 to 64");
+        say_length(size);
         return;
     }
     say(b"the file ends inside a record");
@@ -167,11 +171,18 @@ pub fn say_refusal(cause: Cause, file: &[u8], factor: u64) {
         Cause::MissingByte(byte) => say_missing(byte),
         Cause::SameHash(row) => say_clash(file, row as usize, factor),
         Cause::NoParts(row) => say_no_parts(file, row as usize),
+        _ => say_other(cause),
+    }
+}
+
+// The same for a cause that no build has.
+fn say_other(cause: Cause) {
+    match cause {
         Cause::TooShort => say(b"a buffer is too short"),
         Cause::OutOfForm => say(b"the tables are out of form"),
         Cause::TooLong => say(b"the text is over 4096 bytes"),
         Cause::UnknownCode(_) => say(b"there is no such row"),
         Cause::BadInterval => say(b"there is no such piece of the text"),
-        Cause::Full(_) => say(b"the text is full"),
+        _ => say(b"the text is full"),
     }
 }

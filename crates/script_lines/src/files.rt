@@ -1,12 +1,12 @@
 // Commands that write the phrase file.
+use crate::fields::rest;
+use crate::fields::unescape;
 use crate::names::AGAIN;
 use crate::names::EMPTY;
 use crate::names::LETTERS;
 use crate::names::PAIRS;
 use crate::names::RAW;
 use crate::names::ROW;
-use words::fields::rest;
-use words::fields::unescape;
 use words::put;
 
 // A mark and a length byte.
@@ -63,16 +63,16 @@ pub fn write(command: usize, line: &[u8], file: &mut [u8], size: usize) -> usize
         return 0;
     }
     if command == LETTERS {
-        return put_numbers(file, size, 1, words::fields::size(line));
+        return put_numbers(file, size, 1, crate::fields::size(line));
     }
     if command == PAIRS {
-        return put_numbers(file, size, 2, words::fields::size(line));
+        return put_numbers(file, size, 2, crate::fields::size(line));
     }
     if command == ROW {
         return put_row(file, size, line);
     }
     if command == AGAIN {
-        return put_rows(file, size, rest(line), words::fields::size(line));
+        return put_rows(file, size, rest(line), crate::fields::size(line));
     }
     if command == RAW {
         return unescape(line, file, size);

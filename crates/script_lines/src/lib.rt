@@ -1,6 +1,7 @@
-// The script of the programs `samples` and `replay`: the names of its commands and buffers, and the commands that only
+// The list of the program `samples`: words of its lines, names of its commands and buffers, and the commands that only
 // write: sizes of buffers, the phrase file, the text, the codes.
 pub mod canary;
+pub mod fields;
 pub mod files;
 pub mod names;
 pub mod sizes;

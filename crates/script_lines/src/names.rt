@@ -1,5 +1,5 @@
 // The commands' and the buffers' names, as numbers.
-use words::fields::place_in;
+use crate::fields::place_in;
 
 // The commands in the order of their numbers. First those that set something, then those that print, of these first the
 // encoders.

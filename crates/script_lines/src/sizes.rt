@@ -1,8 +1,8 @@
 // How many numbers or bytes of each buffer are lent, and how many are written.
+use crate::fields::field;
+use crate::fields::rest;
+use crate::fields::size;
 use crate::names::LEND;
-use words::fields::field;
-use words::fields::rest;
-use words::fields::size;
 use words::is;
 
 // Buffers of numbers: a table or a list of codes, and the search area.

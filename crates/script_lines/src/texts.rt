@@ -1,10 +1,10 @@
 // Commands that write the text or the codes.
+use crate::fields::entry;
+use crate::fields::rest;
+use crate::fields::size;
+use crate::fields::unescape;
 use crate::names;
 use words::after;
-use words::fields::entry;
-use words::fields::rest;
-use words::fields::size;
-use words::fields::unescape;
 use words::part;
 
 // The bytes written so many times.

@@ -61,7 +61,25 @@ fn say_decoded(bytes: &[u8; 262144], size: usize, count: usize) {
     say(b"\n");
 }
 
-// Decodes the codes at the front of a buffer.
+// Decodes codes into a buffer, and says what they are.
+fn say_codes(
+    file: &[u8],
+    places: &[u32],
+    lefts: &[u32],
+    rights: &[u32],
+    prefixes: &[u32],
+    area: &[u32],
+    codes: &[u32],
+    bytes: &mut [u8; 262144],
+) {
+    match decoder::decode_tokens(file, places, lefts, rights, prefixes, area, codes, bytes) {
+        Answer::Number(size) => say_decoded(bytes, size, codes.len()),
+        Answer::Refused(cause) => say_undecoded(cause, file, codes),
+    }
+}
+
+// The same for the codes at the front of a buffer. The buffer for the bytes is made here, where nothing else is done, as
+// the page's is (`show_codes`).
 fn decode_codes(
     file: &[u8],
     places: &[u32],
@@ -72,21 +90,17 @@ fn decode_codes(
     buffer: &Codes,
     count: usize,
 ) {
-    let codes = front_numbers(buffer, count);
     let mut bytes = [0u8; 262144];
-    match decoder::decode_tokens(
+    say_codes(
         file,
         places,
         lefts,
         rights,
         prefixes,
         area,
-        codes,
+        front_numbers(buffer, count),
         &mut bytes,
-    ) {
-        Answer::Number(size) => say_decoded(&bytes, size, count),
-        Answer::Refused(cause) => say_undecoded(cause, file, codes),
-    }
+    );
 }
 
 // The command.

@@ -11,6 +11,16 @@ use words::front_numbers;
 use words::say;
 use words::say_quoted;
 
+// A page that was written, and the line for a script.
+fn say_shown(out: &[u8], count: usize) {
+    say_quoted(out);
+    say(b": ");
+    say_bursts(count);
+    say(b"\nresult: shown");
+    say_fields(count);
+    say(b"\n");
+}
+
 // Writes the page of some codes by way of a buffer, and says so.
 fn write_page(
     file: &[u8],
@@ -18,18 +28,11 @@ fn write_page(
     size: usize,
     codes: &[u32],
     out: &[u8],
-    page: &mut [u8],
+    page: &mut [u8; 524288],
 ) {
     let end = page::put_page(page, size, file, places, codes);
     match write_named(out, front(page, end)) {
-        Written::Done => {
-            say_quoted(out);
-            say(b": ");
-            say_bursts(codes.len());
-            say(b"\nresult: shown");
-            say_fields(codes.len());
-            say(b"\n");
-        }
+        Written::Done => say_shown(out, codes.len()),
         Written::Failed(error) => say_failed(b"OUT", out, error),
     }
 }

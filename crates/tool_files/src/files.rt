@@ -148,6 +148,11 @@ fn say_reason(error: i32) {
         say(b"a part of the name is no folder");
         return;
     }
+    say_rarer_reason(error);
+}
+
+// The same for a reason that is met more seldom.
+fn say_rarer_reason(error: i32) {
     if error == libc::EINVAL {
         say(b"it is no name of a file");
         return;

@@ -172,6 +172,21 @@ fn count_pieces(
     );
 }
 
+// All of it over tables that were built.
+fn work(
+    file: &[u8],
+    places: &[u32],
+    lefts: &[u32],
+    rights: &[u32],
+    prefixes: &[u32],
+    area: &[u32],
+) {
+    say_typed(file, places, lefts, rights, prefixes, area);
+    intervals::say_samples(file, places, lefts, rights, prefixes, area);
+    type_long(file, places, lefts, rights, prefixes, area);
+    count_pieces(file, places, lefts, rights, prefixes, area);
+}
+
 fn main() {
     let mut file = [0u8; 2048];
     let mut places = [0u32; 300];
@@ -190,8 +205,5 @@ fn main() {
         &mut prefixes,
         &mut area,
     );
-    say_typed(phrases, &places, &lefts, &rights, &prefixes, &area);
-    intervals::say_samples(phrases, &places, &lefts, &rights, &prefixes, &area);
-    type_long(phrases, &places, &lefts, &rights, &prefixes, &area);
-    count_pieces(phrases, &places, &lefts, &rights, &prefixes, &area);
+    work(phrases, &places, &lefts, &rights, &prefixes, &area);
 }

@@ -1,7 +1,7 @@
 // What is printed, and how many answers differ.
 use tables::Answer;
-use words::fields::say_field;
 use words::say;
+use words::say_field;
 use words::wide;
 
 // How many answers were compared, and how many of them differed.

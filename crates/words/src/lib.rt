@@ -1,5 +1,4 @@
-// Words, lines and numbers of a byte text, and what the programs print.
-pub mod fields;
+// Words and numbers of a byte text, and what the programs print.
 mod numbers;
 mod parts;
 mod saying;
@@ -23,6 +22,7 @@ pub use parts::word_count;
 pub use saying::say;
 pub use saying::say_byte;
 pub use saying::say_codes;
+pub use saying::say_field;
 pub use saying::say_hex;
 pub use saying::say_number;
 pub use saying::say_quoted;

@@ -20,6 +20,12 @@ pub fn say_number(n: u64) {
     io::print_decimal(libc::STDOUT_FILENO, n);
 }
 
+// A space and a number.
+pub fn say_field(n: u64) {
+    say(b" ");
+    say_number(n);
+}
+
 // A byte as \xNN.
 pub fn say_hex(byte: u8) {
     say(b"\\x");

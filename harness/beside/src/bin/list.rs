@@ -1,4 +1,5 @@
-//! Makes the replay list: commands for the program `replay` (crates/commands/README.md says what they mean), and what it has to print.
+//! Makes the replay list: commands for the program `samples` (crates/samples/README.md says what they mean), and what it
+//! has to print.
 //! `list commands` prints the one, `list outcomes` the other; the seed is fixed. Answers and codes are the original's. Refusals that the
 //! original does not have, and the places of those that it has as panics, are the model's.
 use beside::cases::{case, Case};

@@ -2,8 +2,8 @@
 use Prim.Native.Nat.{_≤_, _-_}
 use lib.ListN.{length}
 use borrow.Author.Needs.{needs}
-use Rattle.words.proofs.fields.place_in.Statement.{statement}
-use Rattle.words.proofs.fields.place_in.Tie as tie
+use Rattle.script_lines.proofs.fields.place_in.Statement.{statement}
+use Rattle.script_lines.proofs.fields.place_in.Tie as tie
 
 abbrev Inv-loop : tie.InvT-loop
 Inv-loop list word at₀ count₀ at count = 0 ≤ at

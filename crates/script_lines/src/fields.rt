@@ -1,11 +1,9 @@
 // Words, numbers and escaped bytes of the lines of a script, and the reading of such lines.
-use crate::parts::after;
-use crate::parts::is;
-use crate::parts::part;
-use crate::parts::put;
-use crate::parts::until;
-use crate::saying::say;
-use crate::saying::say_number;
+use words::after;
+use words::is;
+use words::part;
+use words::put;
+use words::until;
 
 // The first word of a line.
 pub fn field(line: &[u8]) -> &[u8] {
@@ -163,10 +161,4 @@ pub fn read_line(line: &mut [u8]) -> usize {
         size += 1;
     }
     size
-}
-
-// Prints a space and a number.
-pub fn say_field(n: u64) {
-    say(b" ");
-    say_number(n);
 }

@@ -4,6 +4,11 @@ use pair_check::PairAnswer;
 use script_lines::canary::cleared;
 use script_lines::canary::fill;
 use script_lines::canary::kept;
+use script_lines::fields::entry;
+use script_lines::fields::field;
+use script_lines::fields::number;
+use script_lines::fields::rest;
+use script_lines::fields::size;
 use script_lines::names::BUILD;
 use script_lines::names::ENTRIES;
 use script_lines::names::LENGTH;
@@ -22,14 +27,9 @@ use script_lines::sizes::Sizes;
 use script_lines::sizes::Table;
 use script_lines::sizes::lent;
 use tables::Answer;
-use words::fields::entry;
-use words::fields::field;
-use words::fields::number;
-use words::fields::rest;
-use words::fields::say_field;
-use words::fields::size;
 use words::front;
 use words::say;
+use words::say_field;
 use words::wide;
 
 // Says what a build did to a buffer of which it fills the first n numbers.

@@ -3,8 +3,8 @@ use mathlib.Core.Path.{_≡_}
 use Prim.Native.Nat.{_≤_, _-_}
 use lib.ListN.{length}
 use borrow.Author.Needs.{needs}
-use Rattle.commands.proofs.run.Statement.{statement}
-use Rattle.commands.proofs.run.Tie as tie
+use Rattle.samples.proofs.run.Statement.{statement}
+use Rattle.samples.proofs.run.Tie as tie
 
 abbrev Inv-loop : tie.InvT-loop
 Inv-loop line₀ file₀ places₀ lefts₀ rights₀ prefixes₀ area₀ text₀ codes₀ sizes₀ k₀ line file places lefts rights prefixes area text codes sizes k =

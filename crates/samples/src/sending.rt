@@ -5,6 +5,9 @@ use script_lines::canary::CANARY;
 use script_lines::canary::fill;
 use script_lines::canary::kept;
 use script_lines::canary::kept_bytes;
+use script_lines::fields::entry;
+use script_lines::fields::number;
+use script_lines::fields::rest;
 use script_lines::names;
 use script_lines::sizes::BYTES;
 use script_lines::sizes::OUTPUT;
@@ -13,13 +16,10 @@ use script_lines::sizes::WORK;
 use script_lines::sizes::lent;
 use script_lines::sizes::lent_bytes;
 use tables::Answer;
-use words::fields::entry;
-use words::fields::number;
-use words::fields::rest;
-use words::fields::say_field;
 use words::front;
 use words::front_numbers;
 use words::say;
+use words::say_field;
 use words::wide;
 
 // Whether the command is an encoder's name.

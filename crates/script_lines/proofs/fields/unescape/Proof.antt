@@ -3,8 +3,8 @@ use mathlib.Core.Path.{_≡_}
 use Prim.Native.Nat.{_-_}
 use lib.ListN.{length}
 use borrow.Author.Needs.{needs}
-use Rattle.words.proofs.fields.unescape.Statement.{statement}
-use Rattle.words.proofs.fields.unescape.Tie as tie
+use Rattle.script_lines.proofs.fields.unescape.Statement.{statement}
+use Rattle.script_lines.proofs.fields.unescape.Tie as tie
 
 abbrev Inv-loop : tie.InvT-loop
 Inv-loop line out₀ from end₀ at₀ out end at = length out ≡ length out₀

@@ -2,8 +2,8 @@
 use Prim.Native.Nat.{_≤_, _-_}
 use lib.ListN.{length}
 use borrow.Author.Needs.{needs}
-use Rattle.commands.proofs.sending.say_codes.Statement.{statement}
-use Rattle.commands.proofs.sending.say_codes.Tie as tie
+use Rattle.samples.proofs.sending.say_codes.Statement.{statement}
+use Rattle.samples.proofs.sending.say_codes.Tie as tie
 
 abbrev Inv-loop : tie.InvT-loop
 Inv-loop codes i₀ i = i ≤ length codes

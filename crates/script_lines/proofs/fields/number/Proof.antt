@@ -2,8 +2,8 @@
 use Prim.Native.Nat.{_≤_, _-_}
 use lib.ListN.{length}
 use borrow.Author.Needs.{needs}
-use Rattle.words.proofs.fields.number.Statement.{statement}
-use Rattle.words.proofs.fields.number.Tie as tie
+use Rattle.script_lines.proofs.fields.number.Statement.{statement}
+use Rattle.script_lines.proofs.fields.number.Tie as tie
 
 abbrev Inv-loop : tie.InvT-loop
 Inv-loop line word value₀ i₀ value i = i ≤ length word

@@ -3,8 +3,8 @@ use mathlib.Core.Path.{_≡_}
 use Prim.Native.Nat.{_-_}
 use lib.ListN.{length}
 use borrow.Author.Needs.{needs}
-use Rattle.words.proofs.fields.read_line.Statement.{statement}
-use Rattle.words.proofs.fields.read_line.Tie as tie
+use Rattle.script_lines.proofs.fields.read_line.Statement.{statement}
+use Rattle.script_lines.proofs.fields.read_line.Tie as tie
 
 abbrev Inv-loop : tie.InvT-loop
 Inv-loop line₀ size₀ line size = length line ≡ length line₀

@@ -10,6 +10,7 @@ use Rattle.theory.specs.Merge.{encode}
 use Rattle.built.specs.Built.{Built, dictionaryOf}
 use Rattle.backtrack_encoder.specs.Answers.{OutputReady, Backtracked, EncodedInto}
 use Rattle.backtrack_encoder.proofs.Running.{codes-count}
+use Rattle.tables.specs.Tables.{Tables, tables}
 
 -- the first i codes stand at the front of what was `entry`
 pub record Copied (codes entry : List ℕ) (count i : ℕ) (out : List ℕ) : Type 0 where
@@ -44,12 +45,12 @@ module _ (codes entry : List ℕ) (count i : ℕ) (out : List ℕ) (C : Copied c
   copied-all h = let f = C .few in let e : i ≡ count = omega arith in rw e at (C .is)
 
 -- the codes of a run in the output
-pub copied-codes : (file places lefts rights prefixes area : List ℕ) (n : ℕ) (text out work : List ℕ) (r : ℕ) (out' work' : List ℕ)
-    → OutputReady file places lefts rights prefixes area n text out work
-    → Backtracked file places lefts rights prefixes area n text work r work'
+pub copied-codes : (T : Tables) (n : ℕ) (text out work : List ℕ) (r : ℕ) (out' work' : List ℕ)
+    → OutputReady T n text out work
+    → Backtracked T n text work r work'
     → out' ≡ take r work' ++ drop r out
-    → EncodedInto file places lefts rights prefixes area n text out work r out' work'
-copied-codes file places lefts rights prefixes area n text out work r out' work' T K e = record {
+    → EncodedInto T n text out work r out' work'
+copied-codes T n text out work r out' work' Q K e = record {
   few = f;
   out-length = omega (arith, ap length e, length-append (take r work') (drop r out), front', length-drop r out);
   out-beyond = ap (drop r) e ∙ drop-at (take r work') (drop r out) r front';
@@ -67,7 +68,7 @@ copied-codes file places lefts rights prefixes area n text out work r out' work'
     l = K .work-length
 
     front' : length (take r work') ≡ r
-    front' = let m = T .ready .room in let o = T .out-room in length-take-le r work' (omega (arith, f, l))
+    front' = let m = Q .ready .room in let o = Q .out-room in length-take-le r work' (omega (arith, f, l))
 
-    count : Built file places lefts rights prefixes area n → r ≡ length (encode (dictionaryOf file) text)
-    count B = codes-count file places lefts rights prefixes area n text work r work' (T .ready) K B
+    count : Built T n → r ≡ length (encode (dictionaryOf (T .file)) text)
+    count B = codes-count T n text work r work' (Q .ready) K B

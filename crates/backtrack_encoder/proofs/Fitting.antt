@@ -9,6 +9,7 @@ use Rattle.theory.specs.Backtracking.{State, place, follows}
 use Rattle.theory.proofs.Lists.{true-false}
 use Rattle.placed_rows.specs.Rows.{row}
 use Rattle.placed_rows.specs.Texts.{Small}
+use Rattle.tables.specs.Tables.{tables}
 use Rattle.tables.specs.Ready.{PartsReady}
 use Rattle.bitfield.specs.Bits.{isSet}
 use Rattle.token_pair.specs.Pair.{PairReady, PassIs}
@@ -83,7 +84,7 @@ module _ (file places lefts rights area : List ℕ) (n : ℕ) (text : List ℕ) 
     ends = λ _. ends i;
     built = λ prefixes B s v _.
         let f : r ≡ follows (dictionaryOf file) (s .stack) c =
-        pass-is file places lefts rights prefixes area n B (getD work (e .count - 1) 0) c r p
+        pass-is (tables file places lefts rights prefixes area) n B (getD work (e .count - 1) 0) c r p
         ∙ sym (ap (λ (K : List ℕ). follows (dictionaryOf file) K c) (v .stack ∙ stack-last work (e .count) some)) in
         f ∙ and-true (follows (dictionaryOf file) (s .stack) c) _ (sym (end-bit s v i) ∙ d);
   }

@@ -22,6 +22,7 @@ use Rattle.backtrack_encoder.specs.Answers.{limitedOf, LimitedIs}
 use Rattle.backtrack_encoder.proofs.Stack.{stack-length}
 use Rattle.backtrack_encoder.proofs.Stepping.{run-more, shows-end, shows-more}
 use Rattle.backtrack_encoder.proofs.Running.{done, Running, running-step, running-few}
+use Rattle.tables.specs.Tables.{Tables}
 
 -- the answer for a final count
 pub within-over : (D : Dictionary) (text : List ℕ) (limit n : ℕ) → limit < n → over ≡ final D text limit n
@@ -66,21 +67,23 @@ module _ (D : Dictionary) (text : List ℕ) (limit : ℕ) where
   limited-next : (k : ℕ) (s : State) → finished D text s ≡ false → passed (step D text s) ≡ false → runLimited D text limit (suc k) s ≡ runLimited D text limit k (step D text s)
   limited-next k s e p = rw (e, p, runLimited)
 
-module _ (file places lefts rights prefixes area : List ℕ) (n : ℕ) (text entry : List ℕ) (limit : ℕ) where
+module _ (T : Tables) (n : ℕ) (text entry : List ℕ) (limit : ℕ) where
+  open Tables T using (file)
+
   abbrev D : Dictionary
   D = dictionaryOf file
 
   abbrev U : ℕ → BacktrackEncoder → List ℕ → List ℕ → Type 0
-  U left e work dead = Running file places lefts rights prefixes area n text entry left e work dead
+  U left e work dead = Running T n text entry left e work dead
 
   -- the state with so many steps left
   abbrev state : ℕ → State
-  state left = run D text (done file places lefts rights prefixes area n text entry left) (start D text)
+  state left = run D text (done T n text entry left) (start D text)
 
   -- the steps that are left decide the answer
   pub record Limiting (left : ℕ) (e : BacktrackEncoder) (work dead : List ℕ) : Type 0 where
     pub running : U left e work dead
-    pub answer : Built file places lefts rights prefixes area n → runLimited D text limit left (state left) ≡ countTillLimit D text limit
+    pub answer : Built T n → runLimited D text limit left (state left) ≡ countTillLimit D text limit
 
   pub limiting-start : (e : BacktrackEncoder) (dead : List ℕ) → U (2 * length text) e entry dead → Limiting (2 * length text) e entry dead
   unfolding countTillLimit
@@ -91,38 +94,38 @@ module _ (file places lefts rights prefixes area : List ℕ) (n : ℕ) (text ent
 
   module _ (left : ℕ) (e : BacktrackEncoder) (work dead : List ℕ) (W : Limiting left e work dead) where
     -- the number of codes of the state
-    count-is : Built file places lefts rights prefixes area n → length (state left .stack) ≡ e .count
+    count-is : Built T n → length (state left .stack) ≡ e .count
     count-is B = ap length (W .running .shows B .stack) ∙ stack-length work (e .count)
 
     -- the answer at the end
     pub limiting-end : (r : Limited) → (left ≡ 0) ⊎ (e .next ≡ none) → ((D : Dictionary) (text : List ℕ) → limitedOf r ≡ final D text limit (e .count))
-        → LimitedIs file places lefts rights prefixes area n text limit entry r work
+        → LimitedIs T n text limit entry r work
     limiting-end r o f = record {
       few = λ k c.
           let q = final-counted D text limit (e .count) k (sym (f D text) ∙ c) in
           let j = q .0 in
-          let h = running-few file places lefts rights prefixes area n text entry left e work dead (W .running) in
+          let h = running-few T n text entry left e work dead (W .running) in
           (omega arith, q .1);
       work-length = W .running .kept;
       work-beyond = W .running .beyond;
       built = λ B. f D text ∙ ap (final D text limit) (sym (count-is B)) ∙ sym (all B) ∙ W .answer B;
     }
       where
-        all : Built file places lefts rights prefixes area n → runLimited D text limit left (state left) ≡ final D text limit (length (state left .stack))
+        all : Built T n → runLimited D text limit left (state left) ≡ final D text limit (length (state left .stack))
         all B = ⊎-elim
             (λ z. ap (λ (k : ℕ). runLimited D text limit k (state left)) z)
             (λ z. limited-end D text limit left (state left) (shows-end D text e work dead (state left) (W .running .shows B) z))
             o
 
     module _ (some : 0 < left) (z : e .next ≡ none → ⊥) (r : BacktrackEncoder) (work' dead' : List ℕ)
-        (K : Stepped file places lefts rights prefixes area n text e work dead r work' dead') where
+        (K : Stepped T n text e work dead r work' dead') where
       next : U (left - 1) r work' dead'
-      next = running-step file places lefts rights prefixes area n text entry left e work dead (W .running) r work' dead' some K
+      next = running-step T n text entry left e work dead (W .running) r work' dead' some K
 
-      unfinished : Built file places lefts rights prefixes area n → finished D text (state left) ≡ false
+      unfinished : Built T n → finished D text (state left) ≡ false
       unfinished B = shows-more D text e work dead (state left) (W .running .shows B) z
 
-      stepped : Built file places lefts rights prefixes area n → state (left - 1) ≡ step D text (state left)
+      stepped : Built T n → state (left - 1) ≡ step D text (state left)
       stepped B =
           let q = W .running .steps in
           let d : 2 * length text - (left - 1) ≡ suc (2 * length text - left) = omega arith in
@@ -132,7 +135,7 @@ module _ (file places lefts rights prefixes area : List ℕ) (n : ℕ) (text ent
       one-less = omega arith
 
       -- the count after the step passes limit + 10, and the text is not finished
-      pub limiting-over : (r .next ≡ none → ⊥) → buffered D text limit < r .count → LimitedIs file places lefts rights prefixes area n text limit entry Over work'
+      pub limiting-over : (r .next ≡ none → ⊥) → buffered D text limit < r .count → LimitedIs T n text limit entry Over work'
       limiting-over y h = record {
         few = λ k c. absurd (over-counted k c);
         work-length = next .kept;

@@ -15,6 +15,7 @@ use Rattle.placed_rows.specs.Rows.{none, row}
 use Rattle.placed_rows.specs.Texts.{Small}
 use Rattle.bitfield.specs.Bits.{isSet, without}
 use Rattle.bitfield.proofs.Sets.{all-below}
+use Rattle.tables.specs.Tables.{tables}
 use Rattle.tables.specs.Ready.{PlacesReady}
 use Rattle.search_area.specs.Answers.{NextMatch}
 use Rattle.built.specs.Built.{dictionaryOf}
@@ -37,7 +38,7 @@ move-start file places area n text r l P short b m = record {
   };
   built = λ lefts rights prefixes B work dead e. record {
     stack = sym (stack-nil work);
-    next = next-tried file places lefts rights prefixes area n B P text r l (bytes-drop 0 text b) m;
+    next = next-tried (tables file places lefts rights prefixes area) n B P text r l (bytes-drop 0 text b) m;
     alive = λ p h. ap (λ (f : ℕ → Bool). f p) e ∙ all-below p (omega arith);
   };
 }
@@ -75,7 +76,7 @@ module _ (file places area : List ℕ) (n : ℕ) (text : List ℕ) (e : Backtrac
         record {
           stack = ap (λ (K : List ℕ). c ∷ K) (v .stack) ∙ sym pushed;
           next = ap (λ (x : ℕ). rowsAt (dictionaryOf file) (drop x text)) p
-              ∙ next-tried file places lefts rights prefixes area n B (T .places-ready) (drop (e .pos + l) text) r k (bytes-drop (e .pos + l) text b) m;
+              ∙ next-tried (tables file places lefts rights prefixes area) n B (T .places-ready) (drop (e .pos + l) text) r k (bytes-drop (e .pos + l) text b) m;
           alive = v .alive;
         };
   }

@@ -10,6 +10,7 @@ use lib.Seq.{getD-drop}
 use Rattle.theory.specs.Dictionary.{Octets}
 use Rattle.theory.specs.Parts.{rowsAt}
 use Rattle.placed_rows.specs.Rows.{none}
+use Rattle.tables.specs.Tables.{Tables}
 use Rattle.tables.specs.Ready.{PlacesReady}
 use Rattle.search_area.specs.Answers.{NextMatch}
 use Rattle.built.specs.Built.{Built, dictionaryOf}
@@ -29,14 +30,16 @@ bytes-drop k text h = octets (drop k text) (λ i. rw (getD-drop k text i 0) (h (
 pub next-bound : (file places : List ℕ) (n : ℕ) (area t : List ℕ) (r l : ℕ) → NextMatch file places n area t r l → (r ≡ none) ⊎ (r < n)
 next-bound file places n area t r l m = ⊎-elim (λ a. inl (a .0)) (λ a. inr (a .0)) (m .bound)
 
-module _ (file places lefts rights prefixes area : List ℕ) (n : ℕ) (B : Built file places lefts rights prefixes area n) (P : PlacesReady file places n) where
+module _ (T : Tables) (n : ℕ) (B : Built T n) (P : PlacesReady (T .file) (T .places) n) where
+  open Tables T using (file, places, area)
+
   pub next-tried : (t : List ℕ) (r l : ℕ) → Octets t → NextMatch file places n area t r l → rowsAt (dictionaryOf file) t ≡ toTry (dictionaryOf file) r
   next-tried t r l o m = go (decLt 0 (length t))
     where
       go : Dec (0 < length t) → rowsAt (dictionaryOf file) t ≡ toTry (dictionaryOf file) r
       go (yes h) =
-          let q = next-is file places lefts rights prefixes area n B t o h r l m in
+          let q = next-is T n B t o h r l m in
           q .tried ∙ sym (try-row (dictionaryOf file) r (not-none file places n P r (q .row)))
       go (no h) =
-          let q = next-none file places lefts rights prefixes area n B t r l m (omega arith) in
+          let q = next-none T n B t r l m (omega arith) in
           q .1 ∙ sym (ap (toTry (dictionaryOf file)) (q .0) ∙ try-none (dictionaryOf file))

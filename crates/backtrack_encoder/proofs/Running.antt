@@ -22,8 +22,11 @@ use Rattle.backtrack_encoder.proofs.Stack.{stack-codes}
 use Rattle.backtrack_encoder.proofs.Sizes.{count-text}
 use Rattle.backtrack_encoder.proofs.Nexts.{Bytes}
 use Rattle.backtrack_encoder.proofs.Stepping.{shows-end, on-the-way}
+use Rattle.tables.specs.Tables.{Tables}
 
-module _ (file places lefts rights prefixes area : List ℕ) (n : ℕ) (text entry : List ℕ) where
+module _ (T : Tables) (n : ℕ) (text entry : List ℕ) where
+  open Tables T using (file, places, lefts, rights, prefixes, area)
+
   abbrev D : Dictionary
   D = dictionaryOf file
 
@@ -33,17 +36,17 @@ module _ (file places lefts rights prefixes area : List ℕ) (n : ℕ) (text ent
 
   -- what is known with so many steps left; `entry` is the work buffer at the start
   pub record Running (left : ℕ) (e : BacktrackEncoder) (work dead : List ℕ) : Type 0 where
-    pub text-ready : TextReady file places lefts rights prefixes area n text work
+    pub text-ready : TextReady T n text work
     pub ready : EncoderReady file n text e work
     pub kept : length work ≡ length entry
     pub beyond : drop (length text) work ≡ drop (length text) entry
     pub steps : left ≤ 2 * length text
-    pub shows : Built file places lefts rights prefixes area n → Shows D text e work dead (run D text (done left) (start D text))
+    pub shows : Built T n → Shows D text e work dead (run D text (done left) (start D text))
 
-  pub running-start : (e : BacktrackEncoder) (dead : List ℕ) → TextReady file places lefts rights prefixes area n text entry
+  pub running-start : (e : BacktrackEncoder) (dead : List ℕ) → TextReady T n text entry
       → Started file places area n text e → isSet dead ≡ allSet → Running (2 * length text) e entry dead
-  running-start e dead T S a = record {
-    text-ready = T;
+  running-start e dead Q S a = record {
+    text-ready = Q;
     ready = S .ready entry;
     kept = refl;
     beyond = refl;
@@ -56,7 +59,7 @@ module _ (file places lefts rights prefixes area : List ℕ) (n : ℕ) (text ent
 
   module _ (left : ℕ) (e : BacktrackEncoder) (work dead : List ℕ) (U : Running left e work dead) where
     pub running-step : (r : BacktrackEncoder) (work' dead' : List ℕ) → 0 < left
-        → Stepped file places lefts rights prefixes area n text e work dead r work' dead' → Running (left - 1) r work' dead'
+        → Stepped T n text e work dead r work' dead' → Running (left - 1) r work' dead'
     running-step r work' dead' some K = record {
       text-ready = record { tables = U .text-ready .tables; short = U .text-ready .short; room = let q = U .text-ready .room in let l = K .work-length in omega arith };
       ready = K .ready;
@@ -71,7 +74,7 @@ module _ (file places lefts rights prefixes area : List ℕ) (n : ℕ) (text ent
     running-few = count-text file places n (U .text-ready .tables .places-ready) text e work (U .ready)
 
     -- the codes at the end
-    pub running-end : Bytes text → (left ≡ 0) ⊎ (e .next ≡ none) → Backtracked file places lefts rights prefixes area n text entry (e .count) work
+    pub running-end : Bytes text → (left ≡ 0) ⊎ (e .next ≡ none) → Backtracked T n text entry (e .count) work
     running-end b o = record {
       few = running-few;
       work-length = U .kept;
@@ -83,29 +86,29 @@ module _ (file places lefts rights prefixes area : List ℕ) (n : ℕ) (text ent
           sym (stack-codes work (e .count) (omega arith)) ∙ ap codes (sym (U .shows B .stack)) ∙ all B;
     }
       where
-        all : Built file places lefts rights prefixes area n → codes (run D text (done left) (start D text) .stack) ≡ encode D text
+        all : Built T n → codes (run D text (done left) (start D text) .stack) ≡ encode D text
         all B = ⊎-elim
-            (λ z. let q = U .steps in run-codes D (lawful-is file places lefts rights prefixes area n B) text (known file places lefts rights prefixes area n B text (octets text b)) (done left) (omega arith))
-            (λ z. going-end D text (run D text (done left) (start D text)) (on-the-way file places lefts rights prefixes area n text B b (done left))
+            (λ z. let q = U .steps in run-codes D (lawful-is T n B) text (known T n B text (octets text b)) (done left) (omega arith))
+            (λ z. going-end D text (run D text (done left) (start D text)) (on-the-way T n text B b (done left))
             (shows-end D text e work dead (run D text (done left) (start D text)) (U .shows B) z))
             o
 
 -- the number of codes
-pub codes-count : (file places lefts rights prefixes area : List ℕ) (n : ℕ) (text work : List ℕ) (r : ℕ) (work' : List ℕ)
-    → TextReady file places lefts rights prefixes area n text work → Backtracked file places lefts rights prefixes area n text work r work'
-    → Built file places lefts rights prefixes area n → r ≡ length (encode (dictionaryOf file) text)
-codes-count file places lefts rights prefixes area n text work r work' T K B =
+pub codes-count : (T : Tables) (n : ℕ) (text work : List ℕ) (r : ℕ) (work' : List ℕ)
+    → TextReady T n text work → Backtracked T n text work r work'
+    → Built T n → r ≡ length (encode (dictionaryOf (T .file)) text)
+codes-count T n text work r work' Q K B =
     let f = K .few in
-    let m = T .room in
+    let m = Q .room in
     let l = K .work-length in
     sym (length-take-le r work' (omega arith)) ∙ ap length (K .built B)
 
-pub counted-codes : (file places lefts rights prefixes area : List ℕ) (n : ℕ) (text work : List ℕ) (r : ℕ) (work' : List ℕ)
-    → TextReady file places lefts rights prefixes area n text work → Backtracked file places lefts rights prefixes area n text work r work'
-    → CountIs file places lefts rights prefixes area n text work r work'
-counted-codes file places lefts rights prefixes area n text work r work' T K = record {
+pub counted-codes : (T : Tables) (n : ℕ) (text work : List ℕ) (r : ℕ) (work' : List ℕ)
+    → TextReady T n text work → Backtracked T n text work r work'
+    → CountIs T n text work r work'
+counted-codes T n text work r work' Q K = record {
   few = K .few;
   work-length = K .work-length;
   work-beyond = K .work-beyond;
-  built = codes-count file places lefts rights prefixes area n text work r work' T K;
+  built = codes-count T n text work r work' Q K;
 }

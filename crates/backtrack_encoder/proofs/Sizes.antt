@@ -10,6 +10,7 @@ use Rattle.theory.proofs.Places.{stack-place}
 use Rattle.phrase_file.specs.Form.{rows}
 use Rattle.placed_rows.specs.Rows.{none, row}
 use Rattle.placed_rows.specs.Texts.{Small}
+use Rattle.tables.specs.Tables.{Tables}
 use Rattle.tables.specs.Ready.{PlacesReady}
 use Rattle.built.specs.Built.{dictionaryOf}
 use Rattle.backtrack_encoder.specs.declared.BacktrackEncoder.{BacktrackEncoder}
@@ -61,11 +62,11 @@ module _ (file places : List ℕ) (n : ℕ) (P : PlacesReady file places n) wher
     count-room c h = omega (arith, count-pos, filled-row c)
 
 -- where all tables are in form, the rows may be read
-pub rows-ready : (file places lefts rights prefixes area : List ℕ) (n : ℕ) (text work : List ℕ)
-    → TextReady file places lefts rights prefixes area n text work → RowsReady file places area n text work
-rows-ready file places lefts rights prefixes area n text work T = record {
-  places-ready = T .tables .places-ready;
-  area-room = T .tables .area-room;
-  short = T .short;
-  room = T .room;
+pub rows-ready : (T : Tables) (n : ℕ) (text work : List ℕ)
+    → TextReady T n text work → RowsReady (T .file) (T .places) (T .area) n text work
+rows-ready T n text work K = record {
+  places-ready = K .tables .places-ready;
+  area-room = K .tables .area-room;
+  short = K .short;
+  room = K .room;
 }

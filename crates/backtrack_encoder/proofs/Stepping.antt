@@ -18,6 +18,7 @@ use Rattle.backtrack_encoder.specs.Encoder.{toTry, EncoderReady, Shows}
 use Rattle.backtrack_encoder.specs.Steps.{EndsIn, rowOr, FirstFitIs, Added, TakenBack, Stepped}
 use Rattle.backtrack_encoder.proofs.Stack.{try-none, try-row, row-none, row-some}
 use Rattle.backtrack_encoder.proofs.Nexts.{Bytes}
+use Rattle.tables.specs.Tables.{Tables}
 
 module _ (D : Dictionary) (text : List ℕ) where
   run-stays : (k : ℕ) (s : State) → finished D text s ≡ true → run D text k s ≡ s
@@ -52,20 +53,22 @@ module _ (D : Dictionary) (text : List ℕ) where
     pub shows-more : (e .next ≡ none → ⊥) → finished D text s ≡ false
     shows-more z = ap (isNil D text) (v .next ∙ try-row D (e .next) z)
 
-module _ (file places lefts rights prefixes area : List ℕ) (n : ℕ) (text : List ℕ) where
+module _ (T : Tables) (n : ℕ) (text : List ℕ) where
+  open Tables T using (file, places, lefts, rights, prefixes, area)
+
   abbrev D : Dictionary
   D = dictionaryOf file
 
   -- every state that is reached is on the way
-  pub on-the-way : Built file places lefts rights prefixes area n → Bytes text → (k : ℕ) → Going D text (run D text k (start D text))
+  pub on-the-way : Built T n → Bytes text → (k : ℕ) → Going D text (run D text k (start D text))
   on-the-way B b k =
-      let L = lawful-is file places lefts rights prefixes area n B in
-      let q = known file places lefts rights prefixes area n B text (octets text b) in
+      let L = lawful-is T n B in
+      let q = known T n B text (octets text b) in
       going-run D L text q k (start D text) (going-start D L text q)
 
   module _ (e : BacktrackEncoder) (work dead : List ℕ) where
     -- nothing is left to try
-    pub step-none : EncoderReady file n text e work → e .next ≡ none → Stepped file places lefts rights prefixes area n text e work dead e work dead
+    pub step-none : EncoderReady file n text e work → e .next ≡ none → Stepped T n text e work dead e work dead
     step-none R z = record {
       ready = R;
       work-length = refl;
@@ -73,8 +76,8 @@ module _ (file places lefts rights prefixes area : List ℕ) (n : ℕ) (text : L
       built = λ B k v. rw (run-end D text k (start D text) (shows-end D text e work dead (run D text k (start D text)) v z)) v;
     }
 
-    module _ (R : EncoderReady file n text e work) (b : Bytes text) (z : e .next ≡ none → ⊥) (c : ℕ) (F : FirstFitIs file places lefts rights prefixes area n text e work dead c) where
-      module _ (B : Built file places lefts rights prefixes area n) (k : ℕ) (v : Shows D text e work dead (run D text k (start D text))) where
+    module _ (R : EncoderReady file n text e work) (b : Bytes text) (z : e .next ≡ none → ⊥) (c : ℕ) (F : FirstFitIs T n text e work dead c) where
+      module _ (B : Built T n) (k : ℕ) (v : Shows D text e work dead (run D text k (start D text))) where
         abbrev s : State
         s = run D text k (start D text)
 
@@ -94,7 +97,7 @@ module _ (file places lefts rights prefixes area : List ℕ) (n : ℕ) (text : L
         first = sym (F .built B s v ends)
 
       pub step-taken : (r : BacktrackEncoder) (dead' : List ℕ) → c ≡ none → TakenBack file n text e work dead r dead'
-          → Stepped file places lefts rights prefixes area n text e work dead r work dead'
+          → Stepped T n text e work dead r work dead'
       step-taken r dead' q K = record {
         ready = K .ready;
         work-length = refl;
@@ -106,7 +109,7 @@ module _ (file places lefts rights prefixes area : List ℕ) (n : ℕ) (text : L
       step-fits q = ⊎-elim (λ y. absurd (q y)) (λ y. y) (F .row)
 
       pub step-added : (r : BacktrackEncoder) (work' : List ℕ) → (c ≡ none → ⊥) → Added file places area n text e work c r work'
-          → Stepped file places lefts rights prefixes area n text e work dead r work' dead
+          → Stepped T n text e work dead r work' dead
       step-added r work' q K = record {
         ready = K .ready;
         work-length = K .work-length;

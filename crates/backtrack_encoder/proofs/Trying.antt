@@ -18,26 +18,29 @@ use Rattle.backtrack_encoder.specs.Encoder.{TextReady, toTry, EncoderRea
 use Rattle.backtrack_encoder.specs.Steps.{EndsIn, FitsIs, FirstFitIs}
 use Rattle.backtrack_encoder.proofs.Stack.{try-none, try-row, row-none, row-some}
 use Rattle.backtrack_encoder.proofs.Sizes.{not-none}
+use Rattle.tables.specs.Tables.{Tables}
 
 -- what is known of the row at a turn: a row or none, and under Built the first that fits is still to come
-pub record Trying (file places lefts rights prefixes area : List ℕ) (n : ℕ) (text : List ℕ) (e : BacktrackEncoder) (work dead : List ℕ) (token : ℕ) : Type 0 where
+pub record Trying (T : Tables) (n : ℕ) (text : List ℕ) (e : BacktrackEncoder) (work dead : List ℕ) (token : ℕ) : Type 0 where
   pub row : (token ≡ none) ⊎ (token < n)
-  pub ends : Built file places lefts rights prefixes area n → EndsIn file text e (e .next) → token < n → EndsIn file text e token
-  pub same : Built file places lefts rights prefixes area n → EndsIn file text e (e .next) → (s : State) → Shows (dictionaryOf file) text e work dead s
-      → firstFit (dictionaryOf file) (s .stack) (s .dead) (toTry (dictionaryOf file) token) ≡ firstFit (dictionaryOf file) (s .stack) (s .dead) (s .next)
+  pub ends : Built T n → EndsIn (T .file) text e (e .next) → token < n → EndsIn (T .file) text e token
+  pub same : Built T n → EndsIn (T .file) text e (e .next) → (s : State) → Shows (dictionaryOf (T .file)) text e work dead s
+      → firstFit (dictionaryOf (T .file)) (s .stack) (s .dead) (toTry (dictionaryOf (T .file)) token) ≡ firstFit (dictionaryOf (T .file)) (s .stack) (s .dead) (s .next)
 
-module _ (file places lefts rights prefixes area : List ℕ) (n : ℕ) (text : List ℕ) (e : BacktrackEncoder) (work dead : List ℕ)
-    (T : TextReady file places lefts rights prefixes area n text work) where
-  pub try-start : EncoderReady file n text e work → Trying file places lefts rights prefixes area n text e work dead (e .next)
+module _ (T : Tables) (n : ℕ) (text : List ℕ) (e : BacktrackEncoder) (work dead : List ℕ)
+    (K : TextReady T n text work) where
+  open Tables T using (file, places, lefts, rights, prefixes, area)
+
+  pub try-start : EncoderReady file n text e work → Trying T n text e work dead (e .next)
   try-start R = record {
     row = R .next;
     ends = λ B i h. i;
     same = λ B i s v. ap (firstFit (dictionaryOf file) (s .stack) (s .dead)) (sym (v .next));
   }
 
-  module _ (token : ℕ) (Y : Trying file places lefts rights prefixes area n text e work dead token) where
+  module _ (token : ℕ) (Y : Trying T n text e work dead token) where
     -- nothing is left to try
-    pub try-end : token ≡ none → FirstFitIs file places lefts rights prefixes area n text e work dead none
+    pub try-end : token ≡ none → FirstFitIs T n text e work dead none
     try-end z = record {
       row = inl refl;
       built = λ B s v i. row-none
@@ -53,7 +56,7 @@ module _ (file places lefts rights prefixes area : List ℕ) (n : ℕ) (text : L
       list = try-row (dictionaryOf file) token some
 
       -- the row fits
-      pub try-fits : (r : Bool) → r ≡ true → FitsIs file places lefts rights area n text e work dead token r → FirstFitIs file places lefts rights prefixes area n text e work dead token
+      pub try-fits : (r : Bool) → r ≡ true → FitsIs file places lefts rights area n text e work dead token r → FirstFitIs T n text e work dead token
       try-fits r y F = record {
         row = inr (try-below, F .ends y);
         built = λ B s v i. row-some token some
@@ -65,32 +68,32 @@ module _ (file places lefts rights prefixes area : List ℕ) (n : ℕ) (text : L
       -- the next prefix is shorter, so there is an end to it
       pub try-shorter : length (getD (rows file) (getD prefixes token 0) []) < length (getD (rows file) token [])
       try-shorter =
-          let P = T .tables .places-ready in
+          let P = K .tables .places-ready in
           let f = P .filled token try-below in
           let few = P .placed .few in
           let count = P .count in
           ⊎-elim
           (λ z. let out : length (rows file) ≤ getD prefixes token 0 = omega arith in omega (arith, ap length (List·getD-eq-default (rows file) [] out)))
           (λ p. p .1)
-          (T .tables .prefixes-ready .shorter token try-below)
+          (K .tables .prefixes-ready .shorter token try-below)
 
-      module _ (i : EndsIn file text e (e .next)) (B : Built file places lefts rights prefixes area n) where
+      module _ (i : EndsIn file text e (e .next)) (B : Built T n) where
         tail : toTry (dictionaryOf file) (getD prefixes token 0) ≡ Parts.prefixes (dictionaryOf file) token
         tail = ⊎-elim
             (λ z. ap (toTry (dictionaryOf file)) (z .0) ∙ try-none (dictionaryOf file) ∙ sym (z .1))
-            (λ q. try-row (dictionaryOf file) (getD prefixes token 0) (not-none file places n (T .tables .places-ready) (getD prefixes token 0) (q .row)) ∙ sym (q .tried))
-            (prefix-cases file places lefts rights prefixes area n B token try-below)
+            (λ q. try-row (dictionaryOf file) (getD prefixes token 0) (not-none file places n (K .tables .places-ready) (getD prefixes token 0) (q .row)) ∙ sym (q .tried))
+            (prefix-cases T n B token try-below)
 
         shorter-ends : getD prefixes token 0 < n → EndsIn file text e (getD prefixes token 0)
         shorter-ends h = ⊎-elim
-            (λ z. absurd (not-none file places n (T .tables .places-ready) (getD prefixes token 0) h (z .0)))
+            (λ z. absurd (not-none file places n (K .tables .places-ready) (getD prefixes token 0) h (z .0)))
             (λ q. let s = q .shorter in let a = Y .ends B i try-below in omega arith)
-            (prefix-cases file places lefts rights prefixes area n B token try-below)
+            (prefix-cases T n B token try-below)
 
       -- it does not fit
-      pub try-next : (r : Bool) → r ≡ false → FitsIs file places lefts rights area n text e work dead token r → Trying file places lefts rights prefixes area n text e work dead (getD prefixes token 0)
+      pub try-next : (r : Bool) → r ≡ false → FitsIs file places lefts rights area n text e work dead token r → Trying T n text e work dead (getD prefixes token 0)
       try-next r y F = record {
-        row = ⊎-elim inl (λ p. inr (p .0)) (T .tables .prefixes-ready .shorter token try-below);
+        row = ⊎-elim inl (λ p. inr (p .0)) (K .tables .prefixes-ready .shorter token try-below);
         ends = λ B i. shorter-ends i B;
         same = λ B i s v.
             ap (firstFit (dictionaryOf file) (s .stack) (s .dead)) (tail i B)

@@ -9,6 +9,7 @@ use Rattle.built.specs.Built.{Built, dictionaryOf}
 use Rattle.backtrack_encoder.specs.declared.Limited.{Limited}
 use Rattle.backtrack_encoder.specs.declared.Limited.the-variants.{Counted, Over}
 use Rattle.backtrack_encoder.specs.Encoder.{TextReady}
+use Rattle.tables.specs.Tables.{Tables}
 
 -- document 01's answer for each case of the enum: the count, or "over"
 abbrev pub limitedOf : Limited → Backtracking.Limited
@@ -16,18 +17,20 @@ limitedOf (Counted n) = Backtracking.counted n
 limitedOf Over = Backtracking.over
 
 -- as TextReady, with an output that has one number per byte of the text
-pub record OutputReady (file places lefts rights prefixes area : List ℕ) (n : ℕ) (text out work : List ℕ) : Type 0 where
-  pub ready : TextReady file places lefts rights prefixes area n text work
+pub record OutputReady (T : Tables) (n : ℕ) (text out work : List ℕ) : Type 0 where
+  pub ready : TextReady T n text work
   pub out-room : length text ≤ length out
 
-module _ (file places lefts rights prefixes area : List ℕ) (n : ℕ) (text : List ℕ) where
+module _ (T : Tables) (n : ℕ) (text : List ℕ) where
+  open Tables T using (file)
+
   -- the codes stand at the front of the work buffer, which is unchanged beyond the text's length
   pub record Backtracked (work : List ℕ) (r : ℕ) (work' : List ℕ) : Type 0 where
     pub few : r ≤ length text
     pub work-length : length work' ≡ length work
     pub work-beyond : drop (length text) work' ≡ drop (length text) work
     pub codes : (i : ℕ) → i < r → getD work' i 0 < n
-    pub built : Built file places lefts rights prefixes area n → take r work' ≡ encode (dictionaryOf file) text
+    pub built : Built T n → take r work' ≡ encode (dictionaryOf file) text
 
   -- the merge procedure's codes stand at the front of the output, which is unchanged beyond them
   pub record EncodedInto (out work : List ℕ) (r : ℕ) (out' work' : List ℕ) : Type 0 where
@@ -37,8 +40,8 @@ module _ (file places lefts rights prefixes area : List ℕ) (n : ℕ) (text : L
     pub work-length : length work' ≡ length work
     pub work-beyond : drop (length text) work' ≡ drop (length text) work
     pub codes : (i : ℕ) → i < r → getD out' i 0 < n
-    pub count-is : Built file places lefts rights prefixes area n → r ≡ length (encode (dictionaryOf file) text)
-    pub codes-are : Built file places lefts rights prefixes area n
+    pub count-is : Built T n → r ≡ length (encode (dictionaryOf file) text)
+    pub codes-are : Built T n
         → out' ≡ encode (dictionaryOf file) text ++ drop (length (encode (dictionaryOf file) text)) out
 
   -- the number of the merge procedure's codes
@@ -46,11 +49,11 @@ module _ (file places lefts rights prefixes area : List ℕ) (n : ℕ) (text : L
     pub few : r ≤ length text
     pub work-length : length work' ≡ length work
     pub work-beyond : drop (length text) work' ≡ drop (length text) work
-    pub built : Built file places lefts rights prefixes area n → r ≡ length (encode (dictionaryOf file) text)
+    pub built : Built T n → r ≡ length (encode (dictionaryOf file) text)
 
   -- the count, or "over"; a count is no more than the text's length, and does not pass the limit
   pub record LimitedIs (limit : ℕ) (work : List ℕ) (r : Limited) (work' : List ℕ) : Type 0 where
     pub few : (count : ℕ) → limitedOf r ≡ Backtracking.counted count → (count ≤ length text) × (count ≤ limit)
     pub work-length : length work' ≡ length work
     pub work-beyond : drop (length text) work' ≡ drop (length text) work
-    pub built : Built file places lefts rights prefixes area n → limitedOf r ≡ Backtracking.countTillLimit (dictionaryOf file) text limit
+    pub built : Built T n → limitedOf r ≡ Backtracking.countTillLimit (dictionaryOf file) text limit

@@ -10,13 +10,14 @@ use Rattle.theory.specs.Dictionary.{Dictionary, none}
 use Rattle.theory.specs.Parts as Parts
 use Rattle.theory.specs.Backtracking.{State, place}
 use Rattle.bitfield.specs.Bits.{isSet}
+use Rattle.tables.specs.Tables.{Tables}
 use Rattle.tables.specs.Ready.{PlacesReady, Ready}
 use Rattle.built.specs.Built.{dictionaryOf}
 use Rattle.backtrack_encoder.specs.declared.BacktrackEncoder.{BacktrackEncoder}
 
 -- tables in form, a text of at most 4,096 bytes, and a work buffer with one number per byte
-pub record TextReady (file places lefts rights prefixes area : List ℕ) (n : ℕ) (text work : List ℕ) : Type 0 where
-  pub tables : Ready file places lefts rights prefixes area n
+pub record TextReady (T : Tables) (n : ℕ) (text work : List ℕ) : Type 0 where
+  pub tables : Ready T n
   pub short : length text ≤ 4096
   pub room : length text ≤ length work
 

@@ -14,6 +14,7 @@ use Rattle.bitfield.specs.Bits.{isSet, allSet}
 use Rattle.built.specs.Built.{Built, dictionaryOf}
 use Rattle.backtrack_encoder.specs.declared.BacktrackEncoder.{BacktrackEncoder}
 use Rattle.backtrack_encoder.specs.Encoder.{EncoderReady, Shows}
+use Rattle.tables.specs.Tables.{Tables, tables}
 
 -- a row, or nothing where it is none
 unfoldable pub rowOr : ℕ → Option ℕ
@@ -32,14 +33,14 @@ pub record TakenBack (file : List ℕ) (n : ℕ) (text : List ℕ) (e : Backtrac
 -- whether a row passes with the code before and its end is in the text and not dead
 pub record FitsIs (file places lefts rights area : List ℕ) (n : ℕ) (text : List ℕ) (e : BacktrackEncoder) (work dead : List ℕ) (c : ℕ) (r : Bool) : Type 0 where
   pub ends : r ≡ true → EndsIn file text e c
-  pub built : (prefixes : List ℕ) → Built file places lefts rights prefixes area n → (s : State) → Shows (dictionaryOf file) text e work dead s → EndsIn file text e c
+  pub built : (prefixes : List ℕ) → Built (tables file places lefts rights prefixes area) n → (s : State) → Shows (dictionaryOf file) text e work dead s → EndsIn file text e c
       → r ≡ follows (dictionaryOf file) (s .stack) c && not (s .dead (place (dictionaryOf file) (c ∷ s .stack)))
 
 module _ (file places area : List ℕ) (n : ℕ) (text : List ℕ) where
   -- the encoder of a text at the start, over any work buffer and all bits set
   pub record Started (r : BacktrackEncoder) : Type 0 where
     pub ready : (work : List ℕ) → EncoderReady file n text r work
-    pub built : (lefts rights prefixes : List ℕ) → Built file places lefts rights prefixes area n → (work dead : List ℕ) → isSet dead ≡ allSet
+    pub built : (lefts rights prefixes : List ℕ) → Built (tables file places lefts rights prefixes area) n → (work dead : List ℕ) → isSet dead ≡ allSet
         → Shows (dictionaryOf file) text r work dead (start (dictionaryOf file) text)
 
   -- row c is added
@@ -47,14 +48,16 @@ module _ (file places area : List ℕ) (n : ℕ) (text : List ℕ) where
     pub ready : EncoderReady file n text r work'
     pub work-length : length work' ≡ length work
     pub work-beyond : drop (length text) work' ≡ drop (length text) work
-    pub built : (lefts rights prefixes : List ℕ) → Built file places lefts rights prefixes area n → (s : State) (dead : List ℕ)
+    pub built : (lefts rights prefixes : List ℕ) → Built (tables file places lefts rights prefixes area) n → (s : State) (dead : List ℕ)
         → Shows (dictionaryOf file) text e work dead s → Shows (dictionaryOf file) text r work' dead (add (dictionaryOf file) text c (s .stack) (s .dead))
 
-module _ (file places lefts rights prefixes area : List ℕ) (n : ℕ) (text : List ℕ) where
+module _ (T : Tables) (n : ℕ) (text : List ℕ) where
+  open Tables T using (file)
+
   -- the first of the rows to try that does, or none
   pub record FirstFitIs (e : BacktrackEncoder) (work dead : List ℕ) (r : ℕ) : Type 0 where
     pub row : (r ≡ none) ⊎ ((r < n) × EndsIn file text e r)
-    pub built : Built file places lefts rights prefixes area n → (s : State) → Shows (dictionaryOf file) text e work dead s → EndsIn file text e (e .next)
+    pub built : Built T n → (s : State) → Shows (dictionaryOf file) text e work dead s → EndsIn file text e (e .next)
         → rowOr r ≡ firstFit (dictionaryOf file) (s .stack) (s .dead) (s .next)
 
   -- a step adds or takes back one code: the state after k steps becomes the state after one more
@@ -62,6 +65,6 @@ module _ (file places lefts rights prefixes area : List ℕ) (n : ℕ) (text : L
     pub ready : EncoderReady file n text r work'
     pub work-length : length work' ≡ length work
     pub work-beyond : drop (length text) work' ≡ drop (length text) work
-    pub built : Built file places lefts rights prefixes area n → (k : ℕ)
+    pub built : Built T n → (k : ℕ)
         → Shows (dictionaryOf file) text e work dead (run (dictionaryOf file) text k (start (dictionaryOf file) text))
         → Shows (dictionaryOf file) text r work' dead' (run (dictionaryOf file) text (suc k) (start (dictionaryOf file) text))

@@ -5,6 +5,7 @@ ghost use Prim.Native.Nat.{ℕ, _+_, _^_, _-_, _<_, _≤_, min};
 ghost use lib.ListN.{length, take, drop};
 ghost use Rattle.theory.specs.Dictionary.{Dictionary};
 ghost use Rattle.theory.specs.Backtracking.{final};
+ghost use Rattle.tables.specs.Tables.{given, lent, before, after};
 ghost use Rattle.tables.specs.Ready.{PlacesReady, PartsReady};
 ghost use Rattle.backtrack_encoder.specs.Encoder.{TextReady, RowsReady, EncoderReady};
 ghost use Rattle.backtrack_encoder.specs.Steps.{EndsIn, FitsIs, FirstFitIs, Started, Added, TakenBack, Stepped};
@@ -46,9 +47,11 @@ fn fits(
     dead: &[u64; 65],
     token: u32,
 ) -> bool
-    requires { ⌜ RowsReady (now file) (now places) (now area) n (now text) (now work) × PartsReady (now file) (now lefts) (now rights) n ⌝ }
+    requires { ⌜ RowsReady (now file) (now places) (now area) n (now text) (now work) × PartsReady (now file)
+        (now lefts) (now rights) n ⌝ }
     requires { ⌜ EncoderReady (now file) n (now text) encoder (now work) × (token < n) ⌝ }
-    ensures { λ r. ⌜ FitsIs (now (file .entry)) (now (places .entry)) (now (lefts .entry)) (now (rights .entry)) (now (area .entry)) n (now (text .entry)) encoder (now (work .entry)) (now (dead .entry)) token r ⌝ }
+    ensures { λ r. ⌜ FitsIs (now (file .entry)) (now (places .entry)) (now (lefts .entry)) (now (rights .entry))
+        (now (area .entry)) n (now (text .entry)) encoder (now (work .entry)) (now (dead .entry)) token r ⌝ }
 {
     let end = encoder.pos + length_of(file, places, n, wide(token));
     if text.len() < end {
@@ -79,9 +82,10 @@ fn first_fit(
     work: &[u32],
     dead: &[u64; 65],
 ) -> u32
-    requires { ⌜ TextReady (now file) (now places) (now lefts) (now rights) (now prefixes) (now area) n (now text) (now work) ⌝ }
+    requires { ⌜ TextReady (given file places lefts rights prefixes area) n (now text) (now work) ⌝ }
     requires { ⌜ EncoderReady (now file) n (now text) encoder (now work) ⌝ }
-    ensures { λ r. ⌜ FirstFitIs (now (file .entry)) (now (places .entry)) (now (lefts .entry)) (now (rights .entry)) (now (prefixes .entry)) (now (area .entry)) n (now (text .entry)) encoder (now (work .entry)) (now (dead .entry)) r ⌝ }
+    ensures { λ r. ⌜ FirstFitIs (lent file places lefts rights prefixes area)
+        n (before text) encoder (before work) (before dead) r ⌝ }
 {
     let mut token = encoder.next;
     while token != NONE {
@@ -130,8 +134,10 @@ fn add(
     work: &mut [u32],
 ) -> BacktrackEncoder
     requires { ⌜ RowsReady (now file) (now places) (now area) n (now text) (now work) ⌝ }
-    requires { ⌜ EncoderReady (now file) n (now text) encoder (now work) × ((token < n) × EndsIn (now file) (now text) encoder token) ⌝ }
-    ensures { λ r. ⌜ Added (now (file .entry)) (now (places .entry)) (now (area .entry)) n (now (text .entry)) encoder (now (work .entry)) token r (now (work .exit)) ⌝ }
+    requires { ⌜ EncoderReady (now file) n (now text) encoder (now work) ×
+        ((token < n) × EndsIn (now file) (now text) encoder token) ⌝ }
+    ensures { λ r. ⌜ Added (now (file .entry)) (now (places .entry)) (now (area .entry)) n (now (text .entry))
+        encoder (now (work .entry)) token r (now (work .exit)) ⌝ }
 {
     let at = encoder.count;
     work[at] = token;
@@ -157,7 +163,8 @@ fn take_back(
 ) -> BacktrackEncoder
     requires { ⌜ PlacesReady (now file) (now places) n × (length (now text) ≤ length (now work)) ⌝ }
     requires { ⌜ EncoderReady (now file) n (now text) encoder (now work) ⌝ }
-    ensures { λ r. ⌜ TakenBack (now (file .entry)) n (now (text .entry)) encoder (now (work .entry)) (now (dead .entry)) r (now (dead .exit)) ⌝ }
+    ensures { λ r. ⌜ TakenBack (now (file .entry)) n (now (text .entry)) encoder (now (work .entry))
+        (now (dead .entry)) r (now (dead .exit)) ⌝ }
 {
     clear_bit(dead, encoder.pos);
     if encoder.count == 0 {
@@ -191,9 +198,10 @@ pub fn step(
     work: &mut [u32],
     dead: &mut [u64; 65],
 ) -> BacktrackEncoder
-    requires { ⌜ TextReady (now file) (now places) (now lefts) (now rights) (now prefixes) (now area) n (now text) (now work) ⌝ }
+    requires { ⌜ TextReady (given file places lefts rights prefixes area) n (now text) (now work) ⌝ }
     requires { ⌜ EncoderReady (now file) n (now text) encoder (now work) ⌝ }
-    ensures { λ r. ⌜ Stepped (now (file .entry)) (now (places .entry)) (now (lefts .entry)) (now (rights .entry)) (now (prefixes .entry)) (now (area .entry)) n (now (text .entry)) encoder (now (work .entry)) (now (dead .entry)) r (now (work .exit)) (now (dead .exit)) ⌝ }
+    ensures { λ r. ⌜ Stepped (lent file places lefts rights prefixes area)
+        n (before text) encoder (before work) (before dead) r (after work) (after dead) ⌝ }
 {
     if encoder.next == NONE {
         return encoder;
@@ -229,8 +237,9 @@ pub fn backtrack(
     text: &[u8],
     work: &mut [u32],
 ) -> usize
-    requires { ⌜ TextReady (now file) (now places) (now lefts) (now rights) (now prefixes) (now area) n (now text) (now work) ⌝ }
-    ensures { λ r. ⌜ Backtracked (now (file .entry)) (now (places .entry)) (now (lefts .entry)) (now (rights .entry)) (now (prefixes .entry)) (now (area .entry)) n (now (text .entry)) (now (work .entry)) r (now (work .exit)) ⌝ }
+    requires { ⌜ TextReady (given file places lefts rights prefixes area) n (now text) (now work) ⌝ }
+    ensures { λ r. ⌜ Backtracked (lent file places lefts rights prefixes area)
+        n (before text) (before work) r (after work) ⌝ }
 {
     let mut dead = all_set();
     let mut encoder = start(file, places, area, n, text);
@@ -282,8 +291,9 @@ pub fn encode_via_backtracking_core(
     out: &mut [u32],
     work: &mut [u32],
 ) -> usize
-    requires { ⌜ OutputReady (now file) (now places) (now lefts) (now rights) (now prefixes) (now area) n (now text) (now out) (now work) ⌝ }
-    ensures { λ r. ⌜ EncodedInto (now (file .entry)) (now (places .entry)) (now (lefts .entry)) (now (rights .entry)) (now (prefixes .entry)) (now (area .entry)) n (now (text .entry)) (now (out .entry)) (now (work .entry)) r (now (out .exit)) (now (work .exit)) ⌝ }
+    requires { ⌜ OutputReady (given file places lefts rights prefixes area) n (now text) (now out) (now work) ⌝ }
+    ensures { λ r. ⌜ EncodedInto (lent file places lefts rights prefixes area)
+        n (before text) (before out) (before work) r (after out) (after work) ⌝ }
 {
     let count = backtrack(file, places, lefts, rights, prefixes, area, n, text, work);
     copy_codes(work, count, out);
@@ -302,8 +312,9 @@ pub fn count_core(
     text: &[u8],
     work: &mut [u32],
 ) -> usize
-    requires { ⌜ TextReady (now file) (now places) (now lefts) (now rights) (now prefixes) (now area) n (now text) (now work) ⌝ }
-    ensures { λ r. ⌜ CountIs (now (file .entry)) (now (places .entry)) (now (lefts .entry)) (now (rights .entry)) (now (prefixes .entry)) (now (area .entry)) n (now (text .entry)) (now (work .entry)) r (now (work .exit)) ⌝ }
+    requires { ⌜ TextReady (given file places lefts rights prefixes area) n (now text) (now work) ⌝ }
+    ensures { λ r. ⌜ CountIs (lent file places lefts rights prefixes area)
+        n (before text) (before work) r (after work) ⌝ }
 {
     backtrack(file, places, lefts, rights, prefixes, area, n, text, work)
 }
@@ -343,8 +354,9 @@ pub fn count_till_limit_core(
     limit: u64,
     work: &mut [u32],
 ) -> Limited
-    requires { ⌜ TextReady (now file) (now places) (now lefts) (now rights) (now prefixes) (now area) n (now text) (now work) ⌝ }
-    ensures { λ r. ⌜ LimitedIs (now (file .entry)) (now (places .entry)) (now (lefts .entry)) (now (rights .entry)) (now (prefixes .entry)) (now (area .entry)) n (now (text .entry)) limit (now (work .entry)) r (now (work .exit)) ⌝ }
+    requires { ⌜ TextReady (given file places lefts rights prefixes area) n (now text) (now work) ⌝ }
+    ensures { λ r. ⌜ LimitedIs (lent file places lefts rights prefixes area)
+        n (before text) limit (before work) r (after work) ⌝ }
 {
     let limit_with_buffer = buffered(limit);
     let mut dead = all_set();

@@ -13,6 +13,7 @@ use Rattle.phrase_file.proofs.Checks as Checks
 use Rattle.theory.specs.Dictionary.{Dictionary}
 use Rattle.theory.specs.Parts.{Parts, partOr, bytesOf, partsOf, partsBelow, dictionary}
 use Rattle.theory.proofs.Accepted.{parts-at}
+use Rattle.tables.specs.Tables.{Tables}
 use Rattle.tables.specs.declared.Form.the-variants as Form
 use Rattle.tables.specs.InForm.{formOf}
 use Rattle.tables.specs.Ready.{Lower, PartsReady, PrefixesReady, Ready}
@@ -34,12 +35,14 @@ module _ (rs : List (List ℕ)) (c : ℕ) (h : c < length rs) (one : length (byt
   unfolding dictionary
   single-right = part-is (λ p. p .right) (rw (le-ltb 1 (length (bytesOf rs c)) (omega arith), partsOf))
 
-module _ (file placeTable lefts rights prefixes area : List ℕ) (n : ℕ) (B : Built file placeTable lefts rights prefixes area n) where
+module _ (T : Tables) (n : ℕ) (B : Built T n) where
+  open Tables T using (file, lefts, rights, prefixes)
+
   abbrev D : Dictionary
   D = dictionaryOf file
 
   size-is : (c : ℕ) → c < n → length (D .bytes c) ≡ length (getD (rows file) c [])
-  size-is c h = ap length (bytes-are file placeTable lefts rights prefixes area n B c h)
+  size-is c h = ap length (bytes-are T n B c h)
 
   single : (c : ℕ) → c < n → length (getD (rows file) c []) ≡ 1 → (getD lefts c 0 ≡ c) × (getD rights c 0 ≡ c)
   unfolding dictionaryOf dictionary
@@ -54,7 +57,7 @@ module _ (file placeTable lefts rights prefixes area : List ℕ) (n : ℕ) (B : 
 
   lower : (c : ℕ) → c < n → 1 < length (getD (rows file) c []) → Lower file c (getD lefts c 0) (getD rights c 0)
   lower c h l =
-      let laws = lawful-is file placeTable lefts rights prefixes area n B .laws in
+      let laws = lawful-is T n B .laws in
       let long = long-is c h l in
       let x = laws .left-below c long in
       let y = laws .right-below c long in
@@ -81,12 +84,12 @@ module _ (file placeTable lefts rights prefixes area : List ℕ) (n : ℕ) (B : 
     shorter = λ c h. ⊎-elim
         (λ e. inl (e .0))
         (λ p. inr (p .row, omega (arith, p .shorter, size-is (getD prefixes c 0) (p .row), size-is c h)))
-        (prefix-cases file placeTable lefts rights prefixes area n B c h);
+        (prefix-cases T n B c h);
   }
 
   -- tables that an accepting build left are in form, n being the count of rows
-  pub in-form : formOf file placeTable lefts rights prefixes area ≡ Form.Rows n
-  in-form = Readiness.in-form file placeTable lefts rights prefixes area n (B .passed) (B .places-are) parts-ready prefixes-ready (B .area-room)
+  pub in-form : formOf T ≡ Form.Rows n
+  in-form = Readiness.in-form T n (B .passed) (B .places-are) parts-ready prefixes-ready (B .area-room)
 
-  pub ready : Ready file placeTable lefts rights prefixes area n
-  ready = Readiness.ready file placeTable lefts rights prefixes area n in-form
+  pub ready : Ready T n
+  ready = Readiness.ready T n in-form

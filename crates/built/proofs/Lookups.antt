@@ -17,22 +17,25 @@ use Rattle.theory.proofs.Longest.{rows-front, longest-at}
 use Rattle.search_area.specs.Answers.{NextMatch, Found}
 use Rattle.built.specs.Built.{dictionaryOf, Built}
 use Rattle.built.proofs.Rows.{count-is, row-bytes, places-ready, lawful-is, known}
+use Rattle.tables.specs.Tables.{Tables}
 
-module _ (file placeTable lefts rights prefixTable area : List ℕ) (n : ℕ) (B : Built file placeTable lefts rights prefixTable area n) where
+module _ (T : Tables) (n : ℕ) (B : Built T n) where
+  open Tables T using (file, places as placeTable, prefixes as prefixTable, area)
+
   abbrev D : Dictionary
   D = dictionaryOf file
 
   L : Lawful D
-  L = lawful-is file placeTable lefts rights prefixTable area n B
+  L = lawful-is T n B
 
   counted : D .count ≡ n
-  counted = count-is file placeTable lefts rights prefixTable area n B
+  counted = count-is T n B
 
   bytes : (c : ℕ) → c < n → row file placeTable n c ≡ D .bytes c
-  bytes = row-bytes file placeTable lefts rights prefixTable area n B
+  bytes = row-bytes T n B
 
   few : n ≤ 4096
-  few = places-ready file placeTable lefts rights prefixTable area n B .placed .few
+  few = places-ready T n B .placed .few
 
   -- the longest row at the front of a text
   pub record NextIs (t : List ℕ) (r l : ℕ) : Type 0 where
@@ -56,7 +59,7 @@ module _ (file placeTable lefts rights prefixTable area : List ℕ) (n : ℕ) (B
     found = m .longest (B .finds)
 
     k : KnownText D t
-    k = known file placeTable lefts rights prefixTable area n B t o
+    k = known T n B t o
 
     own : longestAt D t < n
     own = let e = longest-at D L t k h .known in omega (arith, counted)

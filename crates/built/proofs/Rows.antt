@@ -17,6 +17,7 @@ use Rattle.theory.specs.PairCheck.{passes}
 use Rattle.theory.specs.Parts.{dictionary}
 use Rattle.theory.proofs.PairCheck.{Lawful}
 use Rattle.theory.proofs.Accepted.{lawful, known-text}
+use Rattle.tables.specs.Tables.{Tables}
 use Rattle.tables.specs.Ready.{PlacesReady}
 use Rattle.token_pair.specs.Pair.{Distinct, Tells, PairIs, PassIs}
 use Rattle.built.specs.Built.{dictionaryOf, Built}
@@ -31,7 +32,9 @@ default [] i d e h = absurd (omega arith)
 default (x ∷ l) zero d e h = refl
 default (x ∷ l) (suc i) d e h = default l i d e (omega arith)
 
-module _ (file placeTable lefts rights prefixes area : List ℕ) (n : ℕ) (B : Built file placeTable lefts rights prefixes area n) where
+module _ (T : Tables) (n : ℕ) (B : Built T n) where
+  open Tables T using (file, places as placeTable, lefts, rights, area)
+
   file-is : Checks.Accepted file n
   file-is = Checks.accepted file n (B .passed)
 

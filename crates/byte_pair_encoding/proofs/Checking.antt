@@ -8,6 +8,7 @@ use lib.ListN.{length}
 use Rattle.causes.specs.declared.Cause.{Cause}
 use Rattle.causes.specs.declared.Cause.the-variants.{TooShort, OutOfForm, TooLong}
 use Rattle.phrase_file.specs.Form.{rows}
+use Rattle.tables.specs.Tables.{Tables}
 use Rattle.tables.specs.declared.Form.the-variants as Form
 use Rattle.tables.specs.InForm.{formOf}
 use Rattle.tables.specs.Ready.{Ready}
@@ -18,17 +19,19 @@ use Rattle.byte_pair_encoding.specs.declared.Check.the-variants as Check
 use Rattle.byte_pair_encoding.specs.Answers.{checkedOf}
 
 -- a call that is not refused
-pub record Passed (file placeTable lefts rights prefixes area text out work : List ℕ) (n : ℕ) : Type 0 where
-  pub not-refused : sendRefusal text out work (formOf file placeTable lefts rights prefixes area) ≡ none
-  pub count : n ≡ length (rows file)
-  pub tables : Ready file placeTable lefts rights prefixes area n
+pub record Passed (T : Tables) (text out work : List ℕ) (n : ℕ) : Type 0 where
+  pub not-refused : sendRefusal text out work (formOf T) ≡ none
+  pub count : n ≡ length (rows (T .file))
+  pub tables : Ready T n
   pub short : length text ≤ 4096
   pub out-room : length text ≤ length out
   pub work-room : length text ≤ length work
 
-module _ (file placeTable lefts rights prefixes area text out work : List ℕ) where
+module _ (T : Tables) (text out work : List ℕ) where
+  open Tables T using (file)
+
   abbrev pub refusal : Option Cause
-  refusal = sendRefusal text out work (formOf file placeTable lefts rights prefixes area)
+  refusal = sendRefusal text out work (formOf T)
 
   -- the cases of the check
 
@@ -46,13 +49,13 @@ module _ (file placeTable lefts rights prefixes area text out work : List ℕ) w
     told-work h = told TooShort (Refusals.short-work text out work _ s o h)
 
     module _ (w : length text ≤ length work) where
-      pub told-form : formOf file placeTable lefts rights prefixes area ≡ Form.Out → Check.Refused OutOfForm ≡ checkedOf refusal (length (rows file))
+      pub told-form : formOf T ≡ Form.Out → Check.Refused OutOfForm ≡ checkedOf refusal (length (rows file))
       told-form e = told OutOfForm (Refusals.out-of-form text out work _ s o w e)
 
-      pub told-rows : (n : ℕ) → formOf file placeTable lefts rights prefixes area ≡ Form.Rows n → Check.Rows n ≡ checkedOf refusal (length (rows file))
+      pub told-rows : (n : ℕ) → formOf T ≡ Form.Rows n → Check.Rows n ≡ checkedOf refusal (length (rows file))
       told-rows n e =
           rw (Refusals.not-refused text out work _ n s o w e)
-          (ap Check.Rows (ready file placeTable lefts rights prefixes area n e .places-ready .count))
+          (ap Check.Rows (ready T n e .places-ready .count))
 
   -- what the check tells
 
@@ -63,13 +66,13 @@ module _ (file placeTable lefts rights prefixes area text out work : List ℕ) w
       go none q f = absurd (let z : _≡_ {A = ℕ} 0 1 = cc in omega arith)
       go (some d) q f = let s : d ≡ cause = cc in q ∙ ap some s
 
-  pub passed : (n : ℕ) → checkedOf refusal (length (rows file)) ≡ Check.Rows n → Passed file placeTable lefts rights prefixes area text out work n
+  pub passed : (n : ℕ) → checkedOf refusal (length (rows file)) ≡ Check.Rows n → Passed T text out work n
   passed n e = go refusal refl e
     where
-      go : (o : Option Cause) → refusal ≡ o → checkedOf o (length (rows file)) ≡ Check.Rows n → Passed file placeTable lefts rights prefixes area text out work n
+      go : (o : Option Cause) → refusal ≡ o → checkedOf o (length (rows file)) ≡ Check.Rows n → Passed T text out work n
       go none q f =
           let p = Refusals.no-refusal text out work _ q in
-          let R = ready file placeTable lefts rights prefixes area (p .in-form .0) (p .in-form .1) in
+          let R = ready T (p .in-form .0) (p .in-form .1) in
           let s : n ≡ length (rows file) = cc in
           record {
             not-refused = q;

@@ -7,6 +7,7 @@ use lib.ListN.{length}
 use Rattle.causes.specs.declared.Cause.{Cause}
 use Rattle.phrase_file.specs.Form.{rows}
 use Rattle.theory.specs.Backtracking.{Limited, counted, over}
+use Rattle.tables.specs.Tables.{Tables}
 use Rattle.tables.specs.declared.Answer.the-variants.{Number, Refused}
 use Rattle.tables.specs.InForm.{formOf}
 use Rattle.answers.specs.Refusals.{sendRefusal, countRefusal}
@@ -27,12 +28,14 @@ pub limit-numbers : (limited : Limited) → limitAnswerOf (limitAnswered none li
 limit-numbers (counted count) = refl
 limit-numbers over = refl
 
-module _ (file placeTable lefts rights prefixes area text work : List ℕ) where
-  module _ (cause : Cause) (e : checkedOf (sendRefusal text work work (formOf file placeTable lefts rights prefixes area)) (length (rows file)) ≡ Check.Refused cause) where
-    told : countRefusal text work (formOf file placeTable lefts rights prefixes area) ≡ some cause
-    told = count-as-send text work _ ∙ refused file placeTable lefts rights prefixes area text work work cause e
+module _ (T : Tables) (text work : List ℕ) where
+  open Tables T using (file)
 
-    pub nothing-counted : Counts file placeTable lefts rights prefixes area text work work (Refused cause)
+  module _ (cause : Cause) (e : checkedOf (sendRefusal text work work (formOf T)) (length (rows file)) ≡ Check.Refused cause) where
+    told : countRefusal text work (formOf T) ≡ some cause
+    told = count-as-send text work _ ∙ refused T text work work cause e
+
+    pub nothing-counted : Counts T text work work (Refused cause)
     nothing-counted = record {
       count = 0;
       answer = rw told;
@@ -42,7 +45,7 @@ module _ (file placeTable lefts rights prefixes area text work : List ℕ) where
       built = λ n B f. absurd (some-none cause (sym told ∙ f));
     }
 
-    pub nothing-limited : (limit : ℕ) → CountsTillLimit file placeTable lefts rights prefixes area text limit work work (LimitAnswer.Refused cause)
+    pub nothing-limited : (limit : ℕ) → CountsTillLimit T text limit work work (LimitAnswer.Refused cause)
     nothing-limited limit = record {
       limited = over;
       answer = rw told;
@@ -52,30 +55,30 @@ module _ (file placeTable lefts rights prefixes area text work : List ℕ) where
       built = λ n B f. absurd (some-none cause (sym told ∙ f));
     }
 
-  module _ (n : ℕ) (e : checkedOf (sendRefusal text work work (formOf file placeTable lefts rights prefixes area)) (length (rows file)) ≡ Check.Rows n) where
-    p : Passed file placeTable lefts rights prefixes area text work work n
-    p = passed file placeTable lefts rights prefixes area text work work n e
+  module _ (n : ℕ) (e : checkedOf (sendRefusal text work work (formOf T)) (length (rows file)) ≡ Check.Rows n) where
+    p : Passed T text work work n
+    p = passed T text work work n e
 
-    not-refused : countRefusal text work (formOf file placeTable lefts rights prefixes area) ≡ none
+    not-refused : countRefusal text work (formOf T) ≡ none
     not-refused = count-as-send text work _ ∙ p .not-refused
 
-    pub count-ready : TextReady file placeTable lefts rights prefixes area n text work
+    pub count-ready : TextReady T n text work
     count-ready = record { tables = p .tables; short = p .short; room = p .work-room }
 
-    pub text-counted : (work' : List ℕ) (count : ℕ) → Answers.CountIs file placeTable lefts rights prefixes area n text work count work'
-        → Counts file placeTable lefts rights prefixes area text work work' (Number count)
+    pub text-counted : (work' : List ℕ) (count : ℕ) → Answers.CountIs T n text work count work'
+        → Counts T text work work' (Number count)
     text-counted work' count s = record {
       count = count;
       answer = rw not-refused;
       refused = λ d f. absurd (some-none d (sym f ∙ not-refused));
       few = λ f. s .few;
       worked = λ f. record { work-length = s .work-length; work-beyond = s .work-beyond };
-      built = λ m B f. s .built (built-count file placeTable lefts rights prefixes area m n (p .count) B);
+      built = λ m B f. s .built (built-count T m n (p .count) B);
     }
 
     pub text-limited : (limit : ℕ) (work' : List ℕ) (l : Backtrack.Limited) (r : LimitAnswer)
-        → Answers.LimitedIs file placeTable lefts rights prefixes area n text limit work l work' → r ≡ limitAnswered none (Answers.limitedOf l)
-        → CountsTillLimit file placeTable lefts rights prefixes area text limit work work' r
+        → Answers.LimitedIs T n text limit work l work' → r ≡ limitAnswered none (Answers.limitedOf l)
+        → CountsTillLimit T text limit work work' r
     text-limited limit work' l r s a = record {
       limited = Answers.limitedOf l;
       answer = rw not-refused a;
@@ -83,6 +86,6 @@ module _ (file placeTable lefts rights prefixes area text work : List ℕ) where
       few = λ f. s .few;
       worked = λ f. record { work-length = s .work-length; work-beyond = s .work-beyond };
       built = λ m B f.
-          let q = s .built (built-count file placeTable lefts rights prefixes area m n (p .count) B) in
+          let q = s .built (built-count T m n (p .count) B) in
           (q, ap limitAnswerOf a ∙ limit-numbers (Answers.limitedOf l) ∙ ap limitedValue q);
     }

@@ -15,6 +15,7 @@ use Rattle.theory.specs.Merge.{encode}
 use Rattle.theory.specs.Backtracking.{Limited, counted, over, start, countTillLimit}
 use Rattle.theory.proofs.CountLimit.{PassedAfter}
 use Rattle.theory.proofs.Demands.{limited-count-is, limited-count-over, limited-count-over-only}
+use Rattle.tables.specs.Tables.{Tables}
 use Rattle.tables.specs.declared.Answer.{Answer}
 use Rattle.tables.specs.declared.Answer.the-variants.{Number, Refused}
 use Rattle.tables.specs.declared.Form.the-variants as Form
@@ -35,13 +36,13 @@ pub number-answered : (refusal : Option Cause) (count k : ℕ) → answered refu
 number-answered none count k e = (refl, cc)
 number-answered (some cause) count k e = absurd (let z : _≡_ {A = ℕ} 0 1 = cc in omega arith)
 
-module _ (file placeTable lefts rights prefixes area text : List ℕ) (n : ℕ) (B : Built file placeTable lefts rights prefixes area n) (short : length text ≤ 4096) where
+module _ (T : Tables) (text : List ℕ) (n : ℕ) (B : Built T n) (short : length text ≤ 4096) where
   -- tables that build left are in form, so that nothing is left to refuse
   pub sending-allowed : (out work : List ℕ) → length text ≤ length out → length text ≤ length work
-      → sendRefusal text out work (formOf file placeTable lefts rights prefixes area) ≡ none
-  sending-allowed out work o w = not-refused text out work _ n short o w (in-form file placeTable lefts rights prefixes area n B)
+      → sendRefusal text out work (formOf T) ≡ none
+  sending-allowed out work o w = not-refused text out work _ n short o w (in-form T n B)
 
-  pub counting-allowed : (work : List ℕ) → length text ≤ length work → countRefusal text work (formOf file placeTable lefts rights prefixes area) ≡ none
+  pub counting-allowed : (work : List ℕ) → length text ≤ length work → countRefusal text work (formOf T) ≡ none
   counting-allowed work w = count-as-send text work _ ∙ sending-allowed work work w w
 
 -- encoders
@@ -57,9 +58,11 @@ pub record SendRefused (cause : Cause) (out work out' work' : List ℕ) (r : Ans
   pub out-kept : out' ≡ out
   pub work-kept : work' ≡ work
 
-module _ (M : Dictionary → List ℕ → List ℕ) (file placeTable lefts rights prefixes area text out work out' work' : List ℕ) (r : Answer)
-    (s : Sends M file placeTable lefts rights prefixes area text out work out' work' r) where
-  pub sends-refused : (cause : Cause) → sendRefusal text out work (formOf file placeTable lefts rights prefixes area) ≡ some cause
+module _ (M : Dictionary → List ℕ → List ℕ) (T : Tables) (text out work out' work' : List ℕ) (r : Answer)
+    (s : Sends M T text out work out' work' r) where
+  open Tables T using (file)
+
+  pub sends-refused : (cause : Cause) → sendRefusal text out work (formOf T) ≡ some cause
       → SendRefused cause out work out' work' r
   sends-refused cause e =
       let k = s .refused cause e in
@@ -76,13 +79,13 @@ module _ (M : Dictionary → List ℕ → List ℕ) (file placeTable lefts right
   sends-short-work s o h = sends-refused TooShort (short-work text out work _ s o h)
 
   pub sends-out-of-form : length text ≤ 4096 → length text ≤ length out → length text ≤ length work
-      → formOf file placeTable lefts rights prefixes area ≡ Form.Out → SendRefused OutOfForm out work out' work' r
+      → formOf T ≡ Form.Out → SendRefused OutOfForm out work out' work' r
   sends-out-of-form s o w e = sends-refused OutOfForm (out-of-form text out work _ s o w e)
 
-  pub sends-codes : (n : ℕ) → Built file placeTable lefts rights prefixes area n → length text ≤ 4096 → length text ≤ length out → length text ≤ length work
+  pub sends-codes : (n : ℕ) → Built T n → length text ≤ 4096 → length text ≤ length out → length text ≤ length work
       → SentCodes (M (dictionaryOf file) text) out out' r
   sends-codes n B short o w =
-      let e = sending-allowed file placeTable lefts rights prefixes area text n B short out work o w in
+      let e = sending-allowed T text n B short out work o w in
       let b = s .built n B e in
       record {
         answer = s .answer ∙ ap (λ (q : Option Cause). answered q (s .count)) e ∙ ap Number (b .0);
@@ -90,29 +93,33 @@ module _ (M : Dictionary → List ℕ → List ℕ) (file placeTable lefts right
       }
 
 -- `count`
-module _ (file placeTable lefts rights prefixes area text work work' : List ℕ) (r : Answer)
-    (s : Counts file placeTable lefts rights prefixes area text work work' r) where
-  pub counts-refused : (cause : Cause) → countRefusal text work (formOf file placeTable lefts rights prefixes area) ≡ some cause → (r ≡ Refused cause) × (work' ≡ work)
+module _ (T : Tables) (text work work' : List ℕ) (r : Answer)
+    (s : Counts T text work work' r) where
+  open Tables T using (file)
+
+  pub counts-refused : (cause : Cause) → countRefusal text work (formOf T) ≡ some cause → (r ≡ Refused cause) × (work' ≡ work)
   counts-refused cause e = (s .answer ∙ ap (λ (o : Option Cause). answered o (s .count)) e, s .refused cause e)
 
-  pub counts-codes : (n : ℕ) → Built file placeTable lefts rights prefixes area n → length text ≤ 4096 → length text ≤ length work
+  pub counts-codes : (n : ℕ) → Built T n → length text ≤ 4096 → length text ≤ length work
       → r ≡ Number (length (encode (dictionaryOf file) text))
   counts-codes n B short w =
-      let e = counting-allowed file placeTable lefts rights prefixes area text n B short work w in
+      let e = counting-allowed T text n B short work w in
       s .answer ∙ ap (λ (q : Option Cause). answered q (s .count)) e ∙ ap Number (s .built n B e)
 
 -- `count_till_limit`
-module _ (file placeTable lefts rights prefixes area text : List ℕ) (limit : ℕ) (work work' : List ℕ) (r : LimitAnswer)
-    (s : CountsTillLimit file placeTable lefts rights prefixes area text limit work work' r) where
-  pub limits-refused : (cause : Cause) → countRefusal text work (formOf file placeTable lefts rights prefixes area) ≡ some cause
+module _ (T : Tables) (text : List ℕ) (limit : ℕ) (work work' : List ℕ) (r : LimitAnswer)
+    (s : CountsTillLimit T text limit work work' r) where
+  open Tables T using (file)
+
+  pub limits-refused : (cause : Cause) → countRefusal text work (formOf T) ≡ some cause
       → (r ≡ LimitAnswer.Refused cause) × (work' ≡ work)
   limits-refused cause e = (s .answer ∙ ap (λ (o : Option Cause). limitAnswered o (s .limited)) e, s .refused cause e)
 
-  module _ (n : ℕ) (B : Built file placeTable lefts rights prefixes area n) (short : length text ≤ 4096) (room : length text ≤ length work) where
+  module _ (n : ℕ) (B : Built T n) (short : length text ≤ 4096) (room : length text ≤ length work) where
     -- the answer is the definition's
     pub limits-count : r ≡ limitAnswered none (countTillLimit (dictionaryOf file) text limit)
     limits-count =
-        let e = counting-allowed file placeTable lefts rights prefixes area text n B short work room in
+        let e = counting-allowed T text n B short work room in
         s .answer ∙ ap (λ (q : Option Cause). limitAnswered q (s .limited)) e ∙ ap (limitAnswered none) (s .built n B e .0)
 
     counted-of : (l : Limited) (k : ℕ) → limitAnswered none l ≡ LimitAnswer.Counted k → l ≡ counted k

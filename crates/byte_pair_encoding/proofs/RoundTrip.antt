@@ -12,6 +12,7 @@ use Rattle.theory.specs.Merge.{encode}
 use Rattle.theory.specs.Shortest.{shortest, greedy}
 use Rattle.theory.specs.Parts.{Accepted, dictionary}
 use Rattle.theory.proofs.Demands.{demand-2-decoding}
+use Rattle.tables.specs.Tables.{Tables}
 use Rattle.tables.specs.declared.Answer.{Answer}
 use Rattle.tables.specs.declared.Answer.the-variants.{Number}
 use Rattle.answers.proofs.Refusals.{no-refusal}
@@ -39,9 +40,11 @@ pub record Decodes (file text : List ℕ) (n : ℕ) (codes : List ℕ) : Type 0 
   pub few : length codes ≤ 4096
   pub known : (i : ℕ) → i < length codes → getD codes i 0 < n
 
-module _ (M : Dictionary → List ℕ → List ℕ) (m : Spells M) (file placeTable lefts rights prefixes area text out work out' work' : List ℕ) (r : Answer)
-    (s : Sends M file placeTable lefts rights prefixes area text out work out' work' r) (n : ℕ) (B : Built file placeTable lefts rights prefixes area n)
+module _ (M : Dictionary → List ℕ → List ℕ) (m : Spells M) (T : Tables) (text out work out' work' : List ℕ) (r : Answer)
+    (s : Sends M T text out work out' work' r) (n : ℕ) (B : Built T n)
     (o : Octets text) where
+  open Tables T using (file)
+
   -- whatever an encoder left: the first codes of the output, as many as it answered
   pub round-trip : (k : ℕ) → r ≡ Number k → Decodes file text n (take k out')
   unfolding dictionaryOf
@@ -67,4 +70,4 @@ module _ (M : Dictionary → List ℕ → List ℕ) (m : Spells M) (file placeTa
       → Decodes file text n (take (length (M (dictionaryOf file) text)) out')
   round-trip-made short u v =
       round-trip (length (M (dictionaryOf file) text))
-      (sends-codes M file placeTable lefts rights prefixes area text out work out' work' r s n B short u v .answer)
+      (sends-codes M T text out work out' work' r s n B short u v .answer)

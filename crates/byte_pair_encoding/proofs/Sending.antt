@@ -11,6 +11,7 @@ use Rattle.phrase_file.proofs.Checks.{accepted}
 use Rattle.theory.specs.Dictionary.{Dictionary}
 use Rattle.theory.specs.Merge.{encode}
 use Rattle.theory.specs.Shortest.{shortest, greedy}
+use Rattle.tables.specs.Tables.{Tables}
 use Rattle.tables.specs.declared.Answer.the-variants.{Number, Refused}
 use Rattle.tables.specs.InForm.{formOf}
 use Rattle.answers.specs.Refusals.{sendRefusal}
@@ -28,17 +29,21 @@ use Rattle.byte_pair_encoding.proofs.Checking.{Passed, refused, passed}
 pub some-none : (cause : Cause) → some cause ≡ none → ⊥
 some-none cause e = let z : _≡_ {A = ℕ} 0 1 = cc in omega arith
 
-module _ (file placeTable lefts rights prefixes area : List ℕ) where
-  -- the count of rows is the same for everybody
-  pub built-count : (m n : ℕ) → n ≡ length (rows file) → Built file placeTable lefts rights prefixes area m → Built file placeTable lefts rights prefixes area n
-  built-count m n e B =
-      let q : m ≡ n = accepted file m (B .passed) .count ∙ sym e in subst (λ (k : ℕ). Built file placeTable lefts rights prefixes area k) q B
+module _ (T : Tables) where
+  open Tables T using (file)
 
-module _ (M : Dictionary → List ℕ → List ℕ) (file placeTable lefts rights prefixes area text out work : List ℕ) where
-  pub nothing-sent : (cause : Cause) → checkedOf (sendRefusal text out work (formOf file placeTable lefts rights prefixes area)) (length (rows file)) ≡ Check.Refused cause
-      → Sends M file placeTable lefts rights prefixes area text out work out work (Refused cause)
+  -- the count of rows is the same for everybody
+  pub built-count : (m n : ℕ) → n ≡ length (rows file) → Built T m → Built T n
+  built-count m n e B =
+      let q : m ≡ n = accepted file m (B .passed) .count ∙ sym e in subst (λ (k : ℕ). Built T k) q B
+
+module _ (M : Dictionary → List ℕ → List ℕ) (T : Tables) (text out work : List ℕ) where
+  open Tables T using (file)
+
+  pub nothing-sent : (cause : Cause) → checkedOf (sendRefusal text out work (formOf T)) (length (rows file)) ≡ Check.Refused cause
+      → Sends M T text out work out work (Refused cause)
   nothing-sent cause e =
-      let q = refused file placeTable lefts rights prefixes area text out work cause e in
+      let q = refused T text out work cause e in
       record {
         count = 0;
         answer = rw q;
@@ -47,22 +52,24 @@ module _ (M : Dictionary → List ℕ → List ℕ) (file placeTable lefts right
         built = λ n B f. absurd (some-none cause (sym q ∙ f));
       }
 
-  sent : (n count : ℕ) (out' work' : List ℕ) → Passed file placeTable lefts rights prefixes area text out work n
-      → Written file text out work out' work' count → (Built file placeTable lefts rights prefixes area n → (count ≡ length (M (dictionaryOf file) text)) × (out' ≡ M (dictionaryOf file) text ++ drop count out))
-      → Sends M file placeTable lefts rights prefixes area text out work out' work' (Number count)
+  sent : (n count : ℕ) (out' work' : List ℕ) → Passed T text out work n
+      → Written file text out work out' work' count → (Built T n → (count ≡ length (M (dictionaryOf file) text)) × (out' ≡ M (dictionaryOf file) text ++ drop count out))
+      → Sends M T text out work out' work' (Number count)
   sent n count out' work' p w b =
       record {
         count = count;
         answer = rw (p .not-refused);
         refused = λ d f. absurd (some-none d (sym f ∙ p .not-refused));
         written = λ f. w;
-        built = λ m B f. b (built-count file placeTable lefts rights prefixes area m n (p .count) B);
+        built = λ m B f. b (built-count T m n (p .count) B);
       }
 
-module _ (file placeTable lefts rights prefixes area text out work : List ℕ) (n : ℕ)
-    (e : checkedOf (sendRefusal text out work (formOf file placeTable lefts rights prefixes area)) (length (rows file)) ≡ Check.Rows n) where
-  p : Passed file placeTable lefts rights prefixes area text out work n
-  p = passed file placeTable lefts rights prefixes area text out work n e
+module _ (T : Tables) (text out work : List ℕ) (n : ℕ)
+    (e : checkedOf (sendRefusal text out work (formOf T)) (length (rows (T .file))) ≡ Check.Rows n) where
+  open Tables T using (file, places as placeTable, lefts, rights, prefixes, area)
+
+  p : Passed T text out work n
+  p = passed T text out work n e
 
   codes-below : (out' : List ℕ) (count : ℕ) → ((i : ℕ) → i < count → getD out' i 0 < n) → (i : ℕ) → i < count → getD out' i 0 < length (rows file)
   codes-below out' count h i l = omega (arith, h i l, p .count)
@@ -77,9 +84,9 @@ module _ (file placeTable lefts rights prefixes area text out work : List ℕ) (
   }
 
   pub bitfield-sent : (out' work' : List ℕ) (count : ℕ) → Merge.Encoded file placeTable lefts rights area n text out out' work work' count
-      → Sends encode file placeTable lefts rights prefixes area text out work out' work' (Number count)
+      → Sends encode T text out work out' work' (Number count)
   bitfield-sent out' work' count s =
-      sent encode file placeTable lefts rights prefixes area text out work n count out' work' p
+      sent encode T text out work n count out' work' p
       (record {
         few = s .few;
         out-length = s .out-length;
@@ -90,13 +97,13 @@ module _ (file placeTable lefts rights prefixes area text out work : List ℕ) (
       })
       (λ B. let r = s .built prefixes B in (r .count, r .codes))
 
-  pub backtracking-ready : OutputReady file placeTable lefts rights prefixes area n text out work
+  pub backtracking-ready : OutputReady T n text out work
   backtracking-ready = record { ready = record { tables = p .tables; short = p .short; room = p .work-room }; out-room = p .out-room }
 
-  pub backtracking-sent : (out' work' : List ℕ) (count : ℕ) → EncodedInto file placeTable lefts rights prefixes area n text out work count out' work'
-      → Sends encode file placeTable lefts rights prefixes area text out work out' work' (Number count)
+  pub backtracking-sent : (out' work' : List ℕ) (count : ℕ) → EncodedInto T n text out work count out' work'
+      → Sends encode T text out work out' work' (Number count)
   backtracking-sent out' work' count s =
-      sent encode file placeTable lefts rights prefixes area text out work n count out' work' p
+      sent encode T text out work n count out' work' p
       (record {
         few = s .few;
         out-length = s .out-length;
@@ -115,9 +122,9 @@ module _ (file placeTable lefts rights prefixes area text out work : List ℕ) (
   }
 
   pub table-sent : (out' work' : List ℕ) (count : ℕ) → TableCodes file placeTable lefts rights area n text out work out' work' count
-      → Sends encode file placeTable lefts rights prefixes area text out work out' work' (Number count)
+      → Sends encode T text out work out' work' (Number count)
   table-sent out' work' count s =
-      sent encode file placeTable lefts rights prefixes area text out work n count out' work' p
+      sent encode T text out work n count out' work' p
       (record {
         few = s .few;
         out-length = s .out-length;
@@ -140,9 +147,9 @@ module _ (file placeTable lefts rights prefixes area text out work : List ℕ) (
   }
 
   pub minimal-sent : (out' work' : List ℕ) (count : ℕ) → MinimalIs file placeTable area n text out out' work work' count
-      → Sends shortest file placeTable lefts rights prefixes area text out work out' work' (Number count)
+      → Sends shortest T text out work out' work' (Number count)
   minimal-sent out' work' count s =
-      sent shortest file placeTable lefts rights prefixes area text out work n count out' work' p
+      sent shortest T text out work n count out' work' p
       (record {
         few = s .written .few;
         out-length = s .written .size;
@@ -157,9 +164,9 @@ module _ (file placeTable lefts rights prefixes area text out work : List ℕ) (
   greedy-ready = record { places-ready = p .tables .places-ready; area-room = p .tables .area-room; few = p .short; out-room = p .out-room }
 
   pub greedy-sent : (out' : List ℕ) (count : ℕ) → GreedyIs file placeTable area n text out out' count
-      → Sends greedy file placeTable lefts rights prefixes area text out work out' work (Number count)
+      → Sends greedy T text out work out' work (Number count)
   greedy-sent out' count s =
-      sent greedy file placeTable lefts rights prefixes area text out work n count out' work p
+      sent greedy T text out work n count out' work p
       (record {
         few = s .written .few;
         out-length = s .written .size;

@@ -7,6 +7,7 @@ use lib.ListN.{length, getD, drop}
 use Rattle.causes.specs.declared.Cause.{Cause}
 use Rattle.phrase_file.specs.Form.{rows}
 use Rattle.theory.specs.Dictionary.{Dictionary}
+use Rattle.tables.specs.Tables.{Tables}
 use Rattle.tables.specs.declared.Answer.{Answer}
 use Rattle.tables.specs.InForm.{formOf}
 use Rattle.answers.specs.Answers.{answered}
@@ -26,10 +27,10 @@ pub record Written (file text out work out' work' : List ℕ) (count : ℕ) : Ty
 
 -- an encoder that sends M: a refusal (9, 7, 8) leaves both buffers as they were; else the answer is the number of codes, and over tables that
 -- build left they are those of M
-pub record Sends (M : Dictionary → List ℕ → List ℕ) (file placeTable lefts rights prefixes area text out work out' work' : List ℕ) (r : Answer) : Type 0 where
+pub record Sends (M : Dictionary → List ℕ → List ℕ) (T : Tables) (text out work out' work' : List ℕ) (r : Answer) : Type 0 where
   pub count : ℕ
-  pub answer : r ≡ answered (sendRefusal text out work (formOf file placeTable lefts rights prefixes area)) count
-  pub refused : (cause : Cause) → sendRefusal text out work (formOf file placeTable lefts rights prefixes area) ≡ some cause → (out' ≡ out) × (work' ≡ work)
-  pub written : sendRefusal text out work (formOf file placeTable lefts rights prefixes area) ≡ none → Written file text out work out' work' count
-  pub built : (n : ℕ) → Built file placeTable lefts rights prefixes area n → sendRefusal text out work (formOf file placeTable lefts rights prefixes area) ≡ none
-      → (count ≡ length (M (dictionaryOf file) text)) × (out' ≡ M (dictionaryOf file) text ++ drop count out)
+  pub answer : r ≡ answered (sendRefusal text out work (formOf T)) count
+  pub refused : (cause : Cause) → sendRefusal text out work (formOf T) ≡ some cause → (out' ≡ out) × (work' ≡ work)
+  pub written : sendRefusal text out work (formOf T) ≡ none → Written (T .file) text out work out' work' count
+  pub built : (n : ℕ) → Built T n → sendRefusal text out work (formOf T) ≡ none
+      → (count ≡ length (M (dictionaryOf (T .file)) text)) × (out' ≡ M (dictionaryOf (T .file)) text ++ drop count out)

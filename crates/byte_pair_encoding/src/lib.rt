@@ -5,6 +5,7 @@ ghost use lib.ListN.{length};
 ghost use Rattle.phrase_file.specs.Form.{rows};
 ghost use Rattle.theory.specs.Merge.{encode};
 ghost use Rattle.theory.specs.Shortest.{shortest, greedy};
+ghost use Rattle.tables.specs.Tables.{lent, before, after};
 ghost use Rattle.tables.specs.InForm.{formOf};
 ghost use Rattle.answers.specs.Refusals.{sendRefusal};
 ghost use Rattle.backtrack_encoder.specs.Answers as Answers;
@@ -80,7 +81,8 @@ fn checked(
     out: &[u32],
     work: &[u32],
 ) -> Check
-    ensures { λ r. ⌜ r ≡ checkedOf (sendRefusal (now (text .entry)) (now (out .entry)) (now (work .entry)) (formOf (now (file .entry)) (now (places .entry)) (now (lefts .entry)) (now (rights .entry)) (now (prefixes .entry)) (now (area .entry)))) (length (rows (now (file .entry)))) ⌝ }
+    ensures { λ r. ⌜ r ≡ checkedOf (sendRefusal (before text) (before out) (before work)
+        (formOf (lent file places lefts rights prefixes area))) (length (rows (before file))) ⌝ }
 {
     if 4096 < text.len() {
         return Check::Refused(Cause::TooLong);
@@ -106,7 +108,8 @@ pub fn encode_via_bitfield(
     out: &mut [u32],
     work: &mut [u32],
 ) -> Answer
-    ensures { λ r. ⌜ Sends encode (now (file .entry)) (now (places .entry)) (now (lefts .entry)) (now (rights .entry)) (now (prefixes .entry)) (now (area .entry)) (now (text .entry)) (now (out .entry)) (now (work .entry)) (now (out .exit)) (now (work .exit)) r ⌝ }
+    ensures { λ r. ⌜ Sends encode (lent file places lefts rights prefixes area)
+        (before text) (before out) (before work) (after out) (after work) r ⌝ }
 {
     match checked(file, places, lefts, rights, prefixes, area, text, out, work) {
         Check::Rows(n) => {
@@ -139,7 +142,8 @@ pub fn encode_via_backtracking(
     out: &mut [u32],
     work: &mut [u32],
 ) -> Answer
-    ensures { λ r. ⌜ Sends encode (now (file .entry)) (now (places .entry)) (now (lefts .entry)) (now (rights .entry)) (now (prefixes .entry)) (now (area .entry)) (now (text .entry)) (now (out .entry)) (now (work .entry)) (now (out .exit)) (now (work .exit)) r ⌝ }
+    ensures { λ r. ⌜ Sends encode (lent file places lefts rights prefixes area)
+        (before text) (before out) (before work) (after out) (after work) r ⌝ }
 {
     match checked(file, places, lefts, rights, prefixes, area, text, out, work) {
         Check::Rows(n) => {
@@ -173,7 +177,8 @@ pub fn encode_via_table(
     out: &mut [u32],
     work: &mut [u32],
 ) -> Answer
-    ensures { λ r. ⌜ Sends encode (now (file .entry)) (now (places .entry)) (now (lefts .entry)) (now (rights .entry)) (now (prefixes .entry)) (now (area .entry)) (now (text .entry)) (now (out .entry)) (now (work .entry)) (now (out .exit)) (now (work .exit)) r ⌝ }
+    ensures { λ r. ⌜ Sends encode (lent file places lefts rights prefixes area)
+        (before text) (before out) (before work) (after out) (after work) r ⌝ }
 {
     match checked(file, places, lefts, rights, prefixes, area, text, out, work) {
         Check::Rows(n) => {
@@ -206,7 +211,8 @@ pub fn encode_minimal(
     out: &mut [u32],
     work: &mut [u32],
 ) -> Answer
-    ensures { λ r. ⌜ Sends shortest (now (file .entry)) (now (places .entry)) (now (lefts .entry)) (now (rights .entry)) (now (prefixes .entry)) (now (area .entry)) (now (text .entry)) (now (out .entry)) (now (work .entry)) (now (out .exit)) (now (work .exit)) r ⌝ }
+    ensures { λ r. ⌜ Sends shortest (lent file places lefts rights prefixes area)
+        (before text) (before out) (before work) (after out) (after work) r ⌝ }
 {
     match checked(file, places, lefts, rights, prefixes, area, text, out, work) {
         Check::Rows(n) => {
@@ -229,7 +235,8 @@ pub fn encode_greedy(
     out: &mut [u32],
     work: &mut [u32],
 ) -> Answer
-    ensures { λ r. ⌜ Sends greedy (now (file .entry)) (now (places .entry)) (now (lefts .entry)) (now (rights .entry)) (now (prefixes .entry)) (now (area .entry)) (now (text .entry)) (now (out .entry)) (now (work .entry)) (now (out .exit)) (now (work .exit)) r ⌝ }
+    ensures { λ r. ⌜ Sends greedy (lent file places lefts rights prefixes area)
+        (before text) (before out) (before work) (after out) (after work) r ⌝ }
 {
     match checked(file, places, lefts, rights, prefixes, area, text, out, work) {
         Check::Rows(n) => {
@@ -251,7 +258,7 @@ pub fn count(
     text: &[u8],
     work: &mut [u32],
 ) -> Answer
-    ensures { λ r. ⌜ Counts (now (file .entry)) (now (places .entry)) (now (lefts .entry)) (now (rights .entry)) (now (prefixes .entry)) (now (area .entry)) (now (text .entry)) (now (work .entry)) (now (work .exit)) r ⌝ }
+    ensures { λ r. ⌜ Counts (lent file places lefts rights prefixes area) (before text) (before work) (after work) r ⌝ }
 {
     match checked(
         file,
@@ -284,7 +291,8 @@ pub fn count_till_limit(
     limit: u64,
     work: &mut [u32],
 ) -> LimitAnswer
-    ensures { λ r. ⌜ CountsTillLimit (now (file .entry)) (now (places .entry)) (now (lefts .entry)) (now (rights .entry)) (now (prefixes .entry)) (now (area .entry)) (now (text .entry)) limit (now (work .entry)) (now (work .exit)) r ⌝ }
+    ensures { λ r. ⌜ CountsTillLimit (lent file places lefts rights prefixes area)
+        (before text) limit (before work) (after work) r ⌝ }
 {
     match checked(
         file,

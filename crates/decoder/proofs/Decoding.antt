@@ -12,6 +12,7 @@ use Rattle.causes.specs.declared.Cause.{Cause}
 use Rattle.causes.specs.declared.Cause.the-variants.{TooShort, OutOfForm, TooLong, UnknownCode}
 use Rattle.phrase_file.specs.Form.{rows}
 use Rattle.theory.specs.Dictionary.{spell}
+use Rattle.tables.specs.Tables.{Tables}
 use Rattle.tables.specs.declared.Form.{Form}
 use Rattle.tables.specs.declared.Form.the-variants.{Rows, Out}
 use Rattle.tables.specs.declared.Answer.{Answer}
@@ -85,45 +86,47 @@ module _ (file tokens out : List ℕ) (form : Form) where
       go false (Rows n) false true p q r s e = absurd (let z : _≡_ {A = ℕ} 0 1 = cc in omega arith)
 
 -- codes that are not refused may be decoded
-pub codes-ready : (file placeTable lefts rights prefixes area tokens : List ℕ) (n : ℕ) → formOf file placeTable lefts rights prefixes area ≡ Rows n
-    → length tokens ≤ 4096 → length tokens ≤ firstUnknown n tokens → CodesReady file placeTable n tokens
-codes-ready file placeTable lefts rights prefixes area tokens n e f k = record {
-  places-ready = ready file placeTable lefts rights prefixes area n e .places-ready;
+pub codes-ready : (T : Tables) (tokens : List ℕ) (n : ℕ) → formOf T ≡ Rows n
+    → length tokens ≤ 4096 → length tokens ≤ firstUnknown n tokens → CodesReady (T .file) (T .places) n tokens
+codes-ready T tokens n e f k = record {
+  places-ready = ready T n e .places-ready;
   few = f;
   known = all-known n tokens k;
 }
 
 -- one code spells its row, as it stands in the file
-pub token-row : (file placeTable lefts rights prefixes area : List ℕ) (n token : ℕ) → formOf file placeTable lefts rights prefixes area ≡ Rows n → token < n
-    → spell (dictionaryOf file) (token ∷ []) ≡ getD (rows file) token []
-token-row file placeTable lefts rights prefixes area n token e h =
-    let P = ready file placeTable lefts rights prefixes area n e .places-ready in
-    append-nil (dictionaryOf file .bytes token) ∙ sym (row-bytes file placeTable n P token h) ∙ P .rows-are token h
+pub token-row : (T : Tables) (n token : ℕ) → formOf T ≡ Rows n → token < n
+    → spell (dictionaryOf (T .file)) (token ∷ []) ≡ getD (rows (T .file)) token []
+token-row T n token e h =
+    let P = ready T n e .places-ready in
+    append-nil (dictionaryOf (T .file) .bytes token) ∙ sym (row-bytes (T .file) (T .places) n P token h) ∙ P .rows-are token h
 
-module _ (file placeTable lefts rights prefixes area tokens out : List ℕ) where
+module _ (T : Tables) (tokens out : List ℕ) where
+  open Tables T using (file)
+
   abbrev refusal : Option Cause
-  refusal = decodeRefusal file tokens out (formOf file placeTable lefts rights prefixes area)
+  refusal = decodeRefusal file tokens out (formOf T)
 
   abbrev spelled : List ℕ
   spelled = spell (dictionaryOf file) tokens
 
   -- what a caller has to see to
-  pub decode-of : (n : ℕ) → formOf file placeTable lefts rights prefixes area ≡ Rows n → ((i : ℕ) → i < length tokens → getD tokens i 0 < n) → length tokens ≤ 4096
+  pub decode-of : (n : ℕ) → formOf T ≡ Rows n → ((i : ℕ) → i < length tokens → getD tokens i 0 < n) → length tokens ≤ 4096
       → length spelled ≤ length out → refusal ≡ none
-  decode-of n e k f r = not-refused file tokens out (formOf file placeTable lefts rights prefixes area) f n e (omega (arith, known-all n tokens k)) r
+  decode-of n e k f r = not-refused file tokens out (formOf T) f n e (omega (arith, known-all n tokens k)) r
 
   -- a refusal leaves the output
-  pub decodes-refused : (cause : Cause) → refusal ≡ some cause → Decodes file placeTable lefts rights prefixes area tokens out out (Refused cause)
+  pub decodes-refused : (cause : Cause) → refusal ≡ some cause → Decodes T tokens out out (Refused cause)
   unfolding decodedInto
   decodes-refused cause e = record { answer = rw e; output = rw e }
 
   -- else the bytes are written to the first part of the output, and counted
   pub decodes-none : (part : List ℕ) (size : ℕ) → refusal ≡ none → size ≡ length spelled → part ≡ spelled
-      → Decodes file placeTable lefts rights prefixes area tokens out (part ++ drop size out) (Number size)
+      → Decodes T tokens out (part ++ drop size out) (Number size)
   unfolding decodedInto
   decodes-none part size e s o = record { answer = rw e (ap Number s); output = rw (e, decodedInto) (ap₂ (λ (w : List ℕ) (k : ℕ). w ++ drop k out) o s) }
 
-  module _ (out' : List ℕ) (r : Answer) (d : Decodes file placeTable lefts rights prefixes area tokens out out' r) where
+  module _ (out' : List ℕ) (r : Answer) (d : Decodes T tokens out out' r) where
     pub decoded-refused : (cause : Cause) → refusal ≡ some cause → (r ≡ Refused cause) × (out' ≡ out)
     unfolding decodedInto
     decoded-refused cause e = (d .answer ∙ ap (λ (o : Option Cause). answered o (length spelled)) e, d .output ∙ ap (λ (o : Option Cause). decodedInto o spelled out) e)

@@ -9,6 +9,7 @@ use lib.Dec.{ltb}
 use Rattle.causes.specs.declared.Cause.{Cause}
 use Rattle.causes.specs.declared.Cause.the-variants.{TooShort, OutOfForm, TooLong, UnknownCode}
 use Rattle.theory.specs.Dictionary.{spell}
+use Rattle.tables.specs.Tables.{Tables}
 use Rattle.tables.specs.declared.Form.{Form}
 use Rattle.tables.specs.declared.Form.the-variants.{Rows, Out}
 use Rattle.tables.specs.declared.Answer.{Answer}
@@ -41,6 +42,6 @@ decodedInto none w out = w ++ drop (length w) out
 decodedInto (some cause) w out = out
 
 -- the answer is a refusal or the number of bytes that the codes spell, which then stand at the front of the output
-pub record Decodes (file placeTable lefts rights prefixes area tokens out out' : List ℕ) (r : Answer) : Type 0 where
-  pub answer : r ≡ answered (decodeRefusal file tokens out (formOf file placeTable lefts rights prefixes area)) (length (spell (dictionaryOf file) tokens))
-  pub output : out' ≡ decodedInto (decodeRefusal file tokens out (formOf file placeTable lefts rights prefixes area)) (spell (dictionaryOf file) tokens) out
+pub record Decodes (T : Tables) (tokens out out' : List ℕ) (r : Answer) : Type 0 where
+  pub answer : r ≡ answered (decodeRefusal (T .file) tokens out (formOf T)) (length (spell (dictionaryOf (T .file)) tokens))
+  pub output : out' ≡ decodedInto (decodeRefusal (T .file) tokens out (formOf T)) (spell (dictionaryOf (T .file)) tokens) out

@@ -8,6 +8,7 @@ ghost use Rattle.theory.specs.Dictionary.{spell};
 ghost use Rattle.built.specs.Built.{dictionaryOf};
 ghost use Rattle.decoder.specs.Decoding.{firstUnknown, Decodes};
 ghost use Rattle.decoder.specs.Steps.{CodesReady, RowRead, CopyReady, Copied, WriteReady};
+ghost use Rattle.tables.specs.Tables.{lent, before, after};
 use causes::Cause;
 use placed_rows::length_of;
 use placed_rows::wide;
@@ -105,7 +106,8 @@ pub fn decode_tokens(
     tokens: &[u32],
     out: &mut [u8],
 ) -> Answer
-    ensures { λ r. ⌜ Decodes (now (file .entry)) (now (places .entry)) (now (lefts .entry)) (now (rights .entry)) (now (prefixes .entry)) (now (area .entry)) (now (tokens .entry)) (now (out .entry)) (now (out .exit)) r ⌝ }
+    ensures { λ r. ⌜ Decodes (lent file places lefts rights prefixes area)
+        (before tokens) (before out) (after out) r ⌝ }
 {
     if 4096 < tokens.len() {
         return Answer::Refused(Cause::TooLong);
@@ -136,7 +138,7 @@ pub fn token_bytes(
     token: u32,
     out: &mut [u8],
 ) -> Answer
-    ensures { λ r. ⌜ Decodes (now (file .entry)) (now (places .entry)) (now (lefts .entry)) (now (rights .entry)) (now (prefixes .entry)) (now (area .entry)) (token ∷ []) (now (out .entry)) (now (out .exit)) r ⌝ }
+    ensures { λ r. ⌜ Decodes (lent file places lefts rights prefixes area) (token ∷ []) (before out) (after out) r ⌝ }
 {
     let tokens = [token];
     decode_tokens(file, places, lefts, rights, prefixes, area, &tokens, out)

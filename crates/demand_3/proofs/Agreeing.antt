@@ -12,6 +12,7 @@ use Rattle.theory.specs.Typing.{append, countAt}
 use Rattle.theory.proofs.Typing.{countAt-last}
 use Rattle.theory.proofs.Encode.{encode-spells}
 use Rattle.theory.proofs.Decoding.{codes-fit}
+use Rattle.tables.specs.Tables.{Tables}
 use Rattle.tables.specs.declared.Answer.{Answer}
 use Rattle.tables.specs.declared.Answer.the-variants.{Number, Refused}
 use Rattle.tables.specs.InForm.{formOf}
@@ -52,36 +53,38 @@ last-is : (typed : ℕ) (counts : List ℕ) → (typed ≡ 0 → ⊥) → getD c
 last-is zero counts any = absurd (any refl)
 last-is (suc i) counts any = ap (λ (k : ℕ). getD counts k 0) (let e : suc i - 1 ≡ i = omega arith in e)
 
-module _ (file placeTable lefts rights prefixes area text counts : List ℕ) where
+module _ (T : Tables) (text counts : List ℕ) where
+  open Tables T using (file)
+
   -- no byte was typed
-  pub typed-none : (r : ℕ) (counts' : List ℕ) → TextTyped file placeTable lefts rights prefixes area append text counts r counts' → r ≡ 0
-      → TypedCount file placeTable lefts rights prefixes area text counts counts' 0
+  pub typed-none : (r : ℕ) (counts' : List ℕ) → TextTyped T append text counts r counts' → r ≡ 0
+      → TypedCount T text counts counts' 0
   typed-none r counts' t e = record { typed = r; is = ap (λ (k : ℕ). lastCount k counts') (sym e); text-typed = t }
 
   -- the count after the last byte
-  pub typed-last : (r : ℕ) (counts' : List ℕ) → TextTyped file placeTable lefts rights prefixes area append text counts r counts' → (r ≡ 0 → ⊥)
-      → (k : ℕ) → k ≡ getD counts' (r - 1) 0 → TypedCount file placeTable lefts rights prefixes area text counts counts' k
+  pub typed-last : (r : ℕ) (counts' : List ℕ) → TextTyped T append text counts r counts' → (r ≡ 0 → ⊥)
+      → (k : ℕ) → k ≡ getD counts' (r - 1) 0 → TypedCount T text counts counts' k
   typed-last r counts' t any k is = record { typed = r; is = is ∙ last-is r counts' any; text-typed = t }
 
   -- with room for all counts the last one is that of the whole text
-  last-merged : (n : ℕ) → Built file placeTable lefts rights prefixes area n → length text ≤ length counts → (counts' : List ℕ) (typed : ℕ) → typed ≡ min (length text) (length counts)
+  last-merged : (n : ℕ) → Built T n → length text ≤ length counts → (counts' : List ℕ) (typed : ℕ) → typed ≡ min (length text) (length counts)
       → ((i : ℕ) → i < typed → getD counts' i 0 ≡ countAt (dictionaryOf file) append text i) → lastCount typed counts' ≡ length (encode (dictionaryOf file) text)
   last-merged n B room counts' zero all are =
-      let spelled = ap length (encode-spells (dictionaryOf file) (lawful-is file placeTable lefts rights prefixes area n B) text) in
-      let fit = codes-fit (dictionaryOf file) (lawful-is file placeTable lefts rights prefixes area n B) (encode (dictionaryOf file) text) in
+      let spelled = ap length (encode-spells (dictionaryOf file) (lawful-is T n B) text) in
+      let fit = codes-fit (dictionaryOf file) (lawful-is T n B) (encode (dictionaryOf file) text) in
       omega (arith, all, room, spelled, fit)
   last-merged n B room counts' (suc i) all are = are i (omega arith) ∙ countAt-last (dictionaryOf file) append text i (omega (arith, all, room))
 
   module _ (out work : List ℕ) where
     abbrev refusal : Option Cause
-    refusal = sendRefusal text out work (formOf file placeTable lefts rights prefixes area)
+    refusal = sendRefusal text out work (formOf T)
 
     -- the promise where nothing was refused, from what holds then
     compared-agrees : (out' work' counts' : List ℕ) (r : Agreement) (sent counted typed : ℕ) → refusal ≡ none
         → r ≡ agreementOf refusal sent counted (lastCount typed counts')
         → Compared file text out work counts out' work' counts' sent counted typed
-        → ((n : ℕ) → Built file placeTable lefts rights prefixes area n → AsMerged file text out counts out' counts' sent counted typed)
-        → Agrees file placeTable lefts rights prefixes area text out work counts out' work' counts' r
+        → ((n : ℕ) → Built T n → AsMerged file text out counts out' counts' sent counted typed)
+        → Agrees T text out work counts out' work' counts' r
     compared-agrees out' work' counts' r sent counted typed allowed is holds merged = record {
       sent = sent;
       counted = counted;
@@ -96,9 +99,9 @@ module _ (file placeTable lefts rights prefixes area text counts : List ℕ) whe
           is ∙ all-same refusal sent counted (lastCount typed counts') allowed (m .sent-is ∙ sym (m .counted-is)) (m .sent-is ∙ sym last) ∙ ap Agreement.Agree (m .sent-is);
     }
 
-    module _ (out' work' : List ℕ) (sending : Answer) (s : Sends encode file placeTable lefts rights prefixes area text out work out' work' sending) where
+    module _ (out' work' : List ℕ) (sending : Answer) (s : Sends encode T text out work out' work' sending) where
       -- the sender refuses
-      pub send-refused : (cause : Cause) → sending ≡ Refused cause → Agrees file placeTable lefts rights prefixes area text out work counts out' work' counts (Agreement.Refused cause)
+      pub send-refused : (cause : Cause) → sending ≡ Refused cause → Agrees T text out work counts out' work' counts (Agreement.Refused cause)
       send-refused cause e =
           let why : refusal ≡ some cause = refused-answered refusal (s .count) cause (sym (s .answer) ∙ e) in
           record {
@@ -110,29 +113,29 @@ module _ (file placeTable lefts rights prefixes area text counts : List ℕ) whe
             compared = λ f. some-none refusal cause why f;
             merged = λ n B f. some-none refusal cause why f;
             built = λ n B room.
-                some-none refusal cause why (sending-allowed file placeTable lefts rights prefixes area text n B (room .short) out work (room .out-room) (room .work-room));
+                some-none refusal cause why (sending-allowed T text n B (room .short) out work (room .out-room) (room .work-room));
           }
 
       module _ (number : ℕ) (e : sending ≡ Number number) where
         sent-given : (refusal ≡ none) × (s .count ≡ number)
         sent-given = number-answered refusal (s .count) number (sym (s .answer) ∙ e)
 
-        module _ (work'' : List ℕ) (counting : Answer) (c : Counts file placeTable lefts rights prefixes area text work' work'' counting) where
+        module _ (work'' : List ℕ) (counting : Answer) (c : Counts T text work' work'' counting) where
           abbrev counter-refusal : Option Cause
-          counter-refusal = countRefusal text work' (formOf file placeTable lefts rights prefixes area)
+          counter-refusal = countRefusal text work' (formOf T)
 
           -- the counter asks for less than the sender, and the sender keeps the work buffer's length
           count-allowed : counter-refusal ≡ none
           count-allowed =
-              let held = no-refusal text out work (formOf file placeTable lefts rights prefixes area) (sent-given .0) in
+              let held = no-refusal text out work (formOf T) (sent-given .0) in
               let kept = s .written (sent-given .0) .work-length in
               let room : length text ≤ length work' = omega (arith, held .work-room, kept) in
-              count-as-send text work' (formOf file placeTable lefts rights prefixes area)
-              ∙ not-refused text work' work' (formOf file placeTable lefts rights prefixes area) (held .in-form .0) (held .short) room room (held .in-form .1)
+              count-as-send text work' (formOf T)
+              ∙ not-refused text work' work' (formOf T) (held .in-form .0) (held .short) room room (held .in-form .1)
 
           -- so that it cannot refuse
           pub count-refused : (cause : Cause) → counting ≡ Refused cause
-              → Agrees file placeTable lefts rights prefixes area text out work counts out' work'' counts (Agreement.Refused cause)
+              → Agrees T text out work counts out' work'' counts (Agreement.Refused cause)
           count-refused cause f = some-none counter-refusal cause (refused-answered counter-refusal (c .count) cause (sym (c .answer) ∙ f)) count-allowed
 
           module _ (k : ℕ) (f : counting ≡ Number k) where
@@ -153,11 +156,11 @@ module _ (file placeTable lefts rights prefixes area text counts : List ℕ) whe
                 }
 
             -- over tables that a build left both have the merge procedure's number
-            both-merged : (n : ℕ) → Built file placeTable lefts rights prefixes area n → s .count ≡ c .count
+            both-merged : (n : ℕ) → Built T n → s .count ≡ c .count
             both-merged n B = s .built n B (sent-given .0) .0 ∙ sym (c .built n B count-allowed)
 
             -- sender and counter differ: nothing is typed
-            pub count-differs : (number ≡ k → ⊥) → Agrees file placeTable lefts rights prefixes area text out work counts out' work'' counts Agreement.Differ
+            pub count-differs : (number ≡ k → ⊥) → Agrees T text out work counts out' work'' counts Agreement.Differ
             count-differs d =
                 let differ : s .count ≡ c .count → ⊥ = λ q. d (sym (sent-given .1) ∙ q ∙ count-is) in
                 compared-agrees out' work'' counts Agreement.Differ (s .count) (c .count) 0 (sent-given .0)
@@ -165,15 +168,15 @@ module _ (file placeTable lefts rights prefixes area text counts : List ℕ) whe
                 (record { written = both-written; few-counted = c .few count-allowed; few-typed = omega arith; counts-length = refl; counts-beyond = refl; counts-kept = λ q. refl })
                 (λ n B. absurd (differ (both-merged n B)))
 
-            module _ (same : number ≡ k) (counts' : List ℕ) (t : ℕ) (typing : TypedCount file placeTable lefts rights prefixes area text counts counts' t) where
+            module _ (same : number ≡ k) (counts' : List ℕ) (t : ℕ) (typing : TypedCount T text counts counts' t) where
               same-numbers : s .count ≡ c .count
               same-numbers = sent-given .1 ∙ same ∙ sym count-is
 
               -- the text was typed
               all-typed : (r : Agreement) → r ≡ agreementOf refusal (s .count) (c .count) (lastCount (typing .typed) counts')
-                  → Agrees file placeTable lefts rights prefixes area text out work counts out' work'' counts' r
+                  → Agrees T text out work counts out' work'' counts' r
               all-typed r is =
-                  let held = no-refusal text out work (formOf file placeTable lefts rights prefixes area) (sent-given .0) in
+                  let held = no-refusal text out work (formOf T) (sent-given .0) in
                   let x = typing .text-typed in
                   compared-agrees out' work'' counts' r (s .count) (c .count) (typing .typed) (sent-given .0) is
                   (record {
@@ -194,12 +197,12 @@ module _ (file placeTable lefts rights prefixes area text counts : List ℕ) whe
                     counts-are = x .counted n B;
                   })
 
-              pub typing-differs : (number ≡ t → ⊥) → Agrees file placeTable lefts rights prefixes area text out work counts out' work'' counts' Agreement.Differ
+              pub typing-differs : (number ≡ t → ⊥) → Agrees T text out work counts out' work'' counts' Agreement.Differ
               typing-differs d =
                   all-typed Agreement.Differ
                   (sym (other-last refusal (s .count) (c .count) (lastCount (typing .typed) counts') (sent-given .0) same-numbers (λ q. d (sym (sent-given .1) ∙ q ∙ sym (typing .is)))))
 
-              pub all-agree : number ≡ t → Agrees file placeTable lefts rights prefixes area text out work counts out' work'' counts' (Agreement.Agree number)
+              pub all-agree : number ≡ t → Agrees T text out work counts out' work'' counts' (Agreement.Agree number)
               all-agree q =
                   all-typed (Agreement.Agree number)
                   (ap Agreement.Agree (sym (sent-given .1))

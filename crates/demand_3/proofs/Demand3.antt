@@ -15,12 +15,13 @@ use Rattle.theory.specs.PairCheck.{passes}
 use Rattle.theory.specs.Typing.{Side}
 use Rattle.theory.specs.Tree.{intervalCount}
 use Rattle.theory.proofs.Demands.{ExactlyOne, demand-3-exactly-one}
+use Rattle.tables.specs.Tables.{Tables}
 use Rattle.tables.specs.declared.Answer.{Answer}
 use Rattle.tables.specs.declared.Answer.the-variants.{Number}
 use Rattle.pair_check.specs.declared.PairAnswer.{PairAnswer}
 use Rattle.pair_check.specs.declared.PairAnswer.the-variants.{Passes}
 use Rattle.pair_check.specs.Pair.{pairAnswer, PairChecked}
-use Rattle.dictionary.specs.Build.{Buffers, BuildIs}
+use Rattle.dictionary.specs.Build.{BuildIs}
 use Rattle.tables.specs.InForm.{formOf}
 use Rattle.built.specs.Built.{dictionaryOf, Built}
 use Rattle.built.proofs.InForm.{in-form}
@@ -32,13 +33,15 @@ use Rattle.typing_book.proofs.Demand.{the-typing-book}
 use Rattle.interval_prepare.specs.Answers.{Prepares}
 use Rattle.interval_count.specs.Answers as Interval
 
--- a file that `from_dictionary` accepted with n rows, and the tables t as that call left them
-module _ (file : List ℕ) (factor : ℕ) (lent t : Buffers) (n : ℕ) (accepted : BuildIs file factor lent t (Rows n)) where
+-- a file that `from_dictionary` accepted with n rows, and the tables T as that call left them
+module _ (factor : ℕ) (lent T : Tables) (n : ℕ) (accepted : BuildIs factor lent T (Rows n)) where
+  open Tables T using (file)
+
   abbrev D : Dictionary
   D = dictionaryOf file
 
   -- what the layers above use of it
-  left : Built file (t .places) (t .lefts) (t .rights) (t .prefixes) (t .area) n
+  left : Built T n
   left = accepted .accepted n refl .built
 
   -- 1. Of all code lists that spell a text exactly one has all neighbours passing the pair check, and it is the merge procedure's
@@ -47,7 +50,7 @@ module _ (file : List ℕ) (factor : ℕ) (lent t : Buffers) (n : ℕ) (accepted
   exactly-one text octets = demand-3-exactly-one (rows file) (left .accepted) text octets
 
   -- 2. Sending, unless refused, gives exactly that list. `encode_via_backtracking`, `encode_via_table` and `encode_via_bitfield` ensure `Sends encode`
-  pub sending : (text out work out' work' : List ℕ) (r : Answer) → Sends encode file (t .places) (t .lefts) (t .rights) (t .prefixes) (t .area) text out work out' work' r
+  pub sending : (text out work out' work' : List ℕ) (r : Answer) → Sends encode T text out work out' work' r
       → (count : ℕ) → r ≡ Number count → (count ≡ length (encode D text)) × (take count out' ≡ encode D text)
   sending text out work out' work' r s count e =
       let given = number-answered _ (s .count) count (sym (s .answer) ∙ e) in
@@ -56,7 +59,7 @@ module _ (file : List ℕ) (factor : ℕ) (lent t : Buffers) (n : ℕ) (accepted
       (same, ap (take count) (codes .1) ∙ take-at (encode D text) (drop (s .count) out) count (sym same))
 
   -- and counting, unless refused, gives its length. `count` ensures `Counts`
-  pub counting : (text work work' : List ℕ) (r : Answer) → Counts file (t .places) (t .lefts) (t .rights) (t .prefixes) (t .area) text work work' r
+  pub counting : (text work work' : List ℕ) (r : Answer) → Counts T text work work' r
       → (count : ℕ) → r ≡ Number count → count ≡ length (encode D text)
   counting text work work' r s count e =
       let given = number-answered _ (s .count) count (sym (s .answer) ∙ e) in
@@ -65,15 +68,15 @@ module _ (file : List ℕ) (factor : ℕ) (lent t : Buffers) (n : ℕ) (accepted
   -- 3. For every list of typing calls, appending or prepending, from length 0 over one slice of any size and content, the refusals, counts and records are those of
   -- the typing book. `Run` holds, call by call, what `typing::push`, `extend`, `truncate` and `token_count` ensure
   pub typing : (side : Side) (m : Lent) → m .len ≡ 0 → (events : List Event) → OctetCalls events
-      → Run file (t .places) (t .lefts) (t .rights) (t .prefixes) (t .area) side m events
-      → AllAsTheBook file (t .places) (t .lefts) (t .rights) (t .prefixes) (t .area) side [] (length (m .states)) m events
-  typing = the-typing-book file (t .places) (t .lefts) (t .rights) (t .prefixes) (t .area) n left
+      → Run T side m events
+      → AllAsTheBook T side [] (length (m .states)) m events
+  typing = the-typing-book T n left
 
   -- 4. Every interval count given is the merge procedure's for its piece. `interval_prepare::prepare` ensures `Prepares`, `interval_count::count` ensures `Interval.Counts`
   pub intervals : (text codes numbers ends depths work codes' numbers' ends' depths' work' : List ℕ) (m : ℕ)
-      → Prepares file (t .places) (t .lefts) (t .rights) (t .prefixes) (t .area) text codes numbers ends depths work codes' numbers' ends' depths' work' (Number m)
+      → Prepares T text codes numbers ends depths work codes' numbers' ends' depths' work' (Number m)
       → (from to : ℕ) (scratch scratch' : List ℕ) (r : Answer)
-      → Interval.Counts file (t .places) (t .lefts) (t .rights) (t .prefixes) (t .area) text codes' numbers' ends' depths' from to scratch scratch' r
+      → Interval.Counts T text codes' numbers' ends' depths' from to scratch scratch' r
       → (count : ℕ) → r ≡ Number count → count ≡ length (encode D (take (to - from) (drop from text)))
   unfolding intervalCount
   intervals text codes numbers ends depths work codes' numbers' ends' depths' work' m p from to scratch scratch' r c count e =
@@ -82,10 +85,10 @@ module _ (file : List ℕ) (factor : ℕ) (lent t : Buffers) (n : ℕ) (accepted
       sym (given .1) ∙ c .built n left prepared (given .0)
 
   -- the pair check of the first sentence is the one that `is_valid_token_pair` answers, over tables as the build left them
-  pub pairs : (token1 token2 : ℕ) (r : PairAnswer) → PairChecked file (t .places) (t .lefts) (t .rights) (t .prefixes) (t .area) token1 token2 r
+  pub pairs : (token1 token2 : ℕ) (r : PairAnswer) → PairChecked T token1 token2 r
       → token1 < n → token2 < n → r ≡ Passes (passes D n token1 token2)
   unfolding pairAnswer
   pairs token1 token2 r c h k =
-      let known : pairAnswer (formOf file (t .places) (t .lefts) (t .rights) (t .prefixes) (t .area)) token1 token2 (c .check) ≡ Passes (c .check) =
-      rw (in-form file (t .places) (t .lefts) (t .rights) (t .prefixes) (t .area) n left, lt-ltb token1 n h, lt-ltb token2 n k) in
+      let known : pairAnswer (formOf T) token1 token2 (c .check) ≡ Passes (c .check) =
+      rw (in-form T n left, lt-ltb token1 n h, lt-ltb token2 n k) in
       c .answer ∙ known ∙ ap Passes (c .built n left h k)

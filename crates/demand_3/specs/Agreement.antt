@@ -9,6 +9,7 @@ use lib.Dec.{eqb}
 use Rattle.causes.specs.declared.Cause.{Cause}
 use Rattle.theory.specs.Merge.{encode}
 use Rattle.theory.specs.Typing.{append, countAt}
+use Rattle.tables.specs.Tables.{Tables}
 use Rattle.tables.specs.InForm.{formOf}
 use Rattle.answers.specs.Refusals.{sendRefusal}
 use Rattle.built.specs.Built.{dictionaryOf, Built}
@@ -35,10 +36,10 @@ agreementOf none sent counted last = cond (eqb sent counted && eqb sent last) (A
 agreementOf (some cause) sent counted last = Refused cause
 
 -- the text typed byte by byte, and the count after the last byte typed
-pub record TypedCount (file placeTable lefts rights prefixes area text counts counts' : List ℕ) (r : ℕ) : Type 0 where
+pub record TypedCount (T : Tables) (text counts counts' : List ℕ) (r : ℕ) : Type 0 where
   pub typed : ℕ
   pub is : r ≡ lastCount typed counts'
-  pub text-typed : TextTyped file placeTable lefts rights prefixes area append text counts typed counts'
+  pub text-typed : TextTyped T append text counts typed counts'
 
 -- what holds without refusal on any tables in form: output and work buffer are as the sender says; no more is counted than the text has bytes, no more bytes are
 -- typed than it has and counts have room for, and counts beyond them are unchanged; all counts are where sender and counter differ, for then nothing is typed. Free are the
@@ -62,15 +63,15 @@ pub record AsMerged (file text out counts out' counts' : List ℕ) (sent counted
 
 -- the sender against the counters. The refusal is the sender's (9, 7, 8) and leaves the three buffers as they were; the counter asks for less, and typing ends where counts have no
 -- more room. Else the answer compares the three numbers, and over tables that a build left, with room for all counts, they agree: they are the merge procedure's
-pub record Agrees (file placeTable lefts rights prefixes area text out work counts out' work' counts' : List ℕ) (r : Agreement) : Type 0 where
+pub record Agrees (T : Tables) (text out work counts out' work' counts' : List ℕ) (r : Agreement) : Type 0 where
   pub sent : ℕ
   pub counted : ℕ
   pub typed : ℕ
-  pub answer : r ≡ agreementOf (sendRefusal text out work (formOf file placeTable lefts rights prefixes area)) sent counted (lastCount typed counts')
-  pub refused : (cause : Cause) → sendRefusal text out work (formOf file placeTable lefts rights prefixes area) ≡ some cause
+  pub answer : r ≡ agreementOf (sendRefusal text out work (formOf T)) sent counted (lastCount typed counts')
+  pub refused : (cause : Cause) → sendRefusal text out work (formOf T) ≡ some cause
       → (out' ≡ out) × (work' ≡ work) × (counts' ≡ counts)
-  pub compared : sendRefusal text out work (formOf file placeTable lefts rights prefixes area) ≡ none
-      → Compared file text out work counts out' work' counts' sent counted typed
-  pub merged : (n : ℕ) → Built file placeTable lefts rights prefixes area n → sendRefusal text out work (formOf file placeTable lefts rights prefixes area) ≡ none
-      → AsMerged file text out counts out' counts' sent counted typed
-  pub built : (n : ℕ) → Built file placeTable lefts rights prefixes area n → Room text out work counts → r ≡ Agree (length (encode (dictionaryOf file) text))
+  pub compared : sendRefusal text out work (formOf T) ≡ none
+      → Compared (T .file) text out work counts out' work' counts' sent counted typed
+  pub merged : (n : ℕ) → Built T n → sendRefusal text out work (formOf T) ≡ none
+      → AsMerged (T .file) text out counts out' counts' sent counted typed
+  pub built : (n : ℕ) → Built T n → Room text out work counts → r ≡ Agree (length (encode (dictionaryOf (T .file)) text))

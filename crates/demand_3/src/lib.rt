@@ -1,5 +1,6 @@
 // The sender against the counters on one text: demand 3 as a promise about code. The whole demand is stated in proofs/Demand3.antt.
 ghost use Rattle.demand_3.specs.Agreement.{TypedCount, Agrees};
+ghost use Rattle.tables.specs.Tables.{lent, before, after};
 use causes::Cause;
 use placed_rows::wide;
 use tables::Answer;
@@ -24,7 +25,8 @@ fn typed_count(
     text: &[u8],
     counts: &mut [u32],
 ) -> usize
-    ensures { λ r. ⌜ TypedCount (now (file .entry)) (now (places .entry)) (now (lefts .entry)) (now (rights .entry)) (now (prefixes .entry)) (now (area .entry)) (now (text .entry)) (now (counts .entry)) (now (counts .exit)) r ⌝ }
+    ensures { λ r. ⌜ TypedCount (lent file places lefts rights prefixes area)
+        (before text) (before counts) (after counts) r ⌝ }
 {
     let typed = typing::type_text(
         Side::Append,
@@ -57,7 +59,8 @@ pub fn sender_against_counters(
     work: &mut [u32],
     counts: &mut [u32],
 ) -> Agreement
-    ensures { λ r. ⌜ Agrees (now (file .entry)) (now (places .entry)) (now (lefts .entry)) (now (rights .entry)) (now (prefixes .entry)) (now (area .entry)) (now (text .entry)) (now (out .entry)) (now (work .entry)) (now (counts .entry)) (now (out .exit)) (now (work .exit)) (now (counts .exit)) r ⌝ }
+    ensures { λ r. ⌜ Agrees (lent file places lefts rights prefixes area)
+        (before text) (before out) (before work) (before counts) (after out) (after work) (after counts) r ⌝ }
 {
     let sending = byte_pair_encoding::encode_via_backtracking(
         file,

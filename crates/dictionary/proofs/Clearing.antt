@@ -6,7 +6,8 @@ use lib.ListN.{length, set, replicate}
 use Rattle.placed_rows.specs.Rows.{none}
 use Rattle.clashes.specs.Buckets.{emptied}
 use Rattle.clashes.proofs.Chains.{emptied-start, emptied-more, emptied-length}
-use Rattle.dictionary.specs.Build.{Buffers, lent, cleared, allCleared, beyond}
+use Rattle.tables.specs.Tables.{Tables, tables}
+use Rattle.dictionary.specs.Build.{cleared, allCleared, beyond}
 
 module _ (t : List ℕ) where
   pub cleared-start : t ≡ cleared 0 t
@@ -22,13 +23,14 @@ module _ (t : List ℕ) where
   cleared-length i h = emptied-length t i h
 
 -- what is cleared does not depend on what was there
-pub cleared-beyond : (n : ℕ) (b b' : Buffers) → beyond n b' ≡ beyond n b → allCleared n b' ≡ allCleared n b
+pub cleared-beyond : (n : ℕ) (T T' : Tables) → beyond n T' ≡ beyond n T → allCleared n T' ≡ allCleared n T
 unfolding cleared
-cleared-beyond n b b' e =
-    ap (λ (d : Buffers). lent (replicate n none ++ d .places) (replicate n none ++ d .lefts) (replicate n none ++ d .rights) (replicate n none ++ d .prefixes) (replicate 16384 none ++ d .area)) e
+cleared-beyond n T T' e =
+    ap (λ (d : Tables). tables (d .file) (replicate n none ++ d .places) (replicate n none ++ d .lefts)
+    (replicate n none ++ d .rights) (replicate n none ++ d .prefixes) (replicate 16384 none ++ d .area)) e
 
 -- the buffers after each was cleared
-pub all-cleared : (n : ℕ) (places lefts rights prefixes area places' lefts' rights' prefixes' area' : List ℕ)
-    → places' ≡ cleared n places → lefts' ≡ cleared n lefts → rights' ≡ cleared n rights → prefixes' ≡ cleared n prefixes → area' ≡ cleared 16384 area
-    → lent places' lefts' rights' prefixes' area' ≡ allCleared n (lent places lefts rights prefixes area)
-all-cleared n places lefts rights prefixes area places' lefts' rights' prefixes' area' p l r x a = rw (p, l, r, x, a)
+pub all-cleared : (n : ℕ) (T : Tables) (places' lefts' rights' prefixes' area' : List ℕ) → places' ≡ cleared n (T .places)
+    → lefts' ≡ cleared n (T .lefts) → rights' ≡ cleared n (T .rights) → prefixes' ≡ cleared n (T .prefixes)
+    → area' ≡ cleared 16384 (T .area) → tables (T .file) places' lefts' rights' prefixes' area' ≡ allCleared n T
+all-cleared n T places' lefts' rights' prefixes' area' p l r x a = rw (p, l, r, x, a)

@@ -18,7 +18,8 @@ use Rattle.built.specs.Built.{Built}
 use Rattle.parts.specs.Parts.{PartsFit, PartsFilled}
 use Rattle.parts.specs.Marking.{AreaKept}
 use Rattle.parts.proofs.Marking.{kept-all}
-use Rattle.dictionary.specs.Build.{Buffers, lent, sameHash, rowsAnswer, beyond}
+use Rattle.tables.specs.Tables.{Tables, tables}
+use Rattle.dictionary.specs.Build.{sameHash, rowsAnswer, beyond}
 use Rattle.dictionary.specs.Steps.{Buildable, RowsFit, Searched, RowsFilled, TablesFilled}
 use Rattle.dictionary.proofs.Sizes.{Large, large, not-short}
 use Rattle.dictionary.proofs.Rows as Table
@@ -67,12 +68,11 @@ module _ (file placeTable prefixes area : List ℕ) (factor n : ℕ) (R : RowsFi
           filled prefixes' area' (λ l. searched file placeTable' prefixes area₁ prefixes' area' factor n (R .passed) written (omega (arith, same)) (R .prefixes-room) area-room F)
           (F .prefixes-filled .prefixes-length) (F .area-filled .area-length) (F .prefixes-filled .prefixes-beyond) (sym (drop-drop 3840 12544 area') ∙ ap (drop 3840) (F .area-filled .area-beyond) ∙ drop-drop 3840 12544 area₁)
 
-module _ (file placeTable lefts rights prefixes area : List ℕ) (factor n : ℕ) (A : Buildable file factor (lent placeTable lefts rights prefixes area) n) where
-  abbrev b : Buffers
-  b = lent placeTable lefts rights prefixes area
+module _ (T : Tables) (factor n : ℕ) (A : Buildable factor T n) where
+  open Tables T using (file, places as placeTable, lefts, rights, prefixes, area)
 
-  enough : Large b n
-  enough = large b n (A .room)
+  enough : Large T n
+  enough = large T n (A .room)
 
   pub few : n ≤ 4096
   few = accepted file n (A .passed) .most
@@ -84,12 +84,13 @@ module _ (file placeTable lefts rights prefixes area : List ℕ) (factor n : ℕ
   module _ (placeTable' prefixes' area' : List ℕ) (clash : ℕ) (R : RowsFilled file factor n placeTable prefixes area placeTable' prefixes' area' clash) where
     filled-tables : (lefts' rights' area₂ : List ℕ) (r : BuildAnswer)
         → length lefts' ≡ length lefts → length rights' ≡ length rights → drop n lefts' ≡ drop n lefts → drop n rights' ≡ drop n rights → AreaKept area' area₂
-        → r ≡ rowsAnswer file factor b n → ((m : ℕ) → r ≡ Rows m → Built file placeTable' lefts' rights' prefixes' area₂ m)
-        → TablesFilled file factor n b (lent placeTable' lefts' rights' prefixes' area₂) r
+        → r ≡ rowsAnswer factor T n
+        → ((m : ℕ) → r ≡ Rows m → Built (tables file placeTable' lefts' rights' prefixes' area₂) m)
+        → TablesFilled factor n T (tables file placeTable' lefts' rights' prefixes' area₂) r
     filled-tables lefts' rights' area₂ r ll rl lb rb k a t = record {
       answer = a;
       built = t;
-      room = not-short (lent placeTable' lefts' rights' prefixes' area₂) n (record {
+      room = not-short (tables file placeTable' lefts' rights' prefixes' area₂) n (record {
         places-room = omega (arith, enough .places-room, R .places-length);
         lefts-room = omega (arith, enough .lefts-room);
         rights-room = omega (arith, enough .rights-room);
@@ -99,8 +100,8 @@ module _ (file placeTable lefts rights prefixes area : List ℕ) (factor n : ℕ
       beyond-kept = rw (R .places-beyond, lb, rb, R .prefixes-beyond, k .beyond ∙ R .area-beyond);
     }
 
-    pub hash-filled : clash < n → TablesFilled file factor n b (lent placeTable' lefts rights prefixes' area') (Refused (SameHash clash))
-    hash-filled h = filled-tables lefts rights area' (Refused (SameHash clash)) refl refl refl refl (kept-all area') (answer-hash file factor b n A clash (R .answer) h) (λ m e. absurd (refused-rows (SameHash clash) m e))
+    pub hash-filled : clash < n → TablesFilled factor n T (tables file placeTable' lefts rights prefixes' area') (Refused (SameHash clash))
+    hash-filled h = filled-tables lefts rights area' (Refused (SameHash clash)) refl refl refl refl (kept-all area') (answer-hash factor T n A clash (R .answer) h) (λ m e. absurd (refused-rows (SameHash clash) m e))
 
     module _ (d : n ≤ clash) where
       S : Searched file placeTable' prefixes' area' n
@@ -111,13 +112,13 @@ module _ (file placeTable lefts rights prefixes area : List ℕ) (factor n : ℕ
 
       -- the parts were filled
       module _ (lefts' rights' area₂ : List ℕ) (without : ℕ) (P : PartsFilled file lefts rights area' lefts' rights' area₂ n without) where
-        pub parts-filled : without < n → TablesFilled file factor n b (lent placeTable' lefts' rights' prefixes' area₂) (Refused (NoParts without))
+        pub parts-filled : without < n → TablesFilled factor n T (tables file placeTable' lefts' rights' prefixes' area₂) (Refused (NoParts without))
         parts-filled h =
             filled-tables lefts' rights' area₂ (Refused (NoParts without)) (P .lefts-length) (P .rights-length) (P .lefts-beyond) (P .rights-beyond) (P .area-kept)
-            (answer-parts file factor b n A clash (R .answer) d without (P .answer) h) (λ m e. absurd (refused-rows (NoParts without) m e))
+            (answer-parts factor T n A clash (R .answer) d without (P .answer) h) (λ m e. absurd (refused-rows (NoParts without) m e))
 
-        pub rows-filled : n ≤ without → TablesFilled file factor n b (lent placeTable' lefts' rights' prefixes' area₂) (Rows n)
+        pub rows-filled : n ≤ without → TablesFilled factor n T (tables file placeTable' lefts' rights' prefixes' area₂) (Rows n)
         rows-filled h =
             filled-tables lefts' rights' area₂ (Rows n) (P .lefts-length) (P .rights-length) (P .lefts-beyond) (P .rights-beyond) (P .area-kept)
-            (answer-rows file factor b n A clash (R .answer) d without (P .answer) h)
+            (answer-rows factor T n A clash (R .answer) d without (P .answer) h)
             (λ m e. rw (← same-rows n m e) (is-built file placeTable' prefixes' area' lefts rights lefts' rights' area₂ n without (A .passed) S P h))

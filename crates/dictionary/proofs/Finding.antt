@@ -21,6 +21,7 @@ use Rattle.parts.specs.Parts.{isSome, RowsFound, PartsFilled}
 use Rattle.parts.proofs.Prefixes.{different, prefix-is}
 use Rattle.parts.proofs.Marking.{still-found}
 use Rattle.built.specs.Built.{dictionaryOf, Built}
+use Rattle.tables.specs.Tables.{tables}
 use Rattle.dictionary.specs.Build.{sameHash}
 use Rattle.dictionary.specs.Steps.{Searched}
 use Rattle.dictionary.proofs.Rows.{places-ready, distinct, fillable}
@@ -78,7 +79,7 @@ module _ (file table prefixes area lefts rights lefts' rights' area' : List ℕ)
   still : RowsFound file table area' n
   still = still-found file table area area' n (S .rows-found) (P .area-kept)
 
-  pub is-built : Built file table lefts' rights' prefixes area' n
+  pub is-built : Built (tables file table lefts' rights' prefixes area') n
   unfolding dictionaryOf dictionary
   is-built = record {
     passed = passed;

@@ -16,67 +16,64 @@ use Rattle.placed_rows.specs.Rows.{none}
 use Rattle.fnv.specs.Fnv.{rowHash}
 use Rattle.clashes.specs.Clashes.{firstClash}
 use Rattle.parts.specs.Parts.{firstWithout}
+use Rattle.tables.specs.Tables.{Tables, tables}
 use Rattle.built.specs.Built.{Built}
 
--- the lent buffers: four tables and the search area
-pub record Buffers : Type 0 where
-  pub places : List ℕ
-  pub lefts : List ℕ
-  pub rights : List ℕ
-  pub prefixes : List ℕ
-  pub area : List ℕ
-
-abbrev pub lent : List ℕ → List ℕ → List ℕ → List ℕ → List ℕ → Buffers
-lent places lefts rights prefixes area = record { places = places; lefts = lefts; rights = rights; prefixes = prefixes; area = area }
-
 -- cause 7: a table has fewer than n entries, or the search area fewer than 16,384
-unfoldable pub tooShort : Buffers → ℕ → Bool
-tooShort b n = ltb (length (b .places)) n || (ltb (length (b .lefts)) n || (ltb (length (b .rights)) n || (ltb (length (b .prefixes)) n || ltb (length (b .area)) 16384)))
+unfoldable pub tooShort : Tables → ℕ → Bool
+tooShort T n =
+    ltb (length (T .places)) n || (ltb (length (T .lefts)) n || (ltb (length (T .rights)) n
+    || (ltb (length (T .prefixes)) n || ltb (length (T .area)) 16384)))
 
 -- cause 5: the lowest row with the hash of an earlier row, n where there is none
 unfoldable pub sameHash : List ℕ → ℕ → ℕ
 sameHash file factor = firstClash (λ i. rowHash (getD (rows file) i []) factor) (length (rows file))
 
 -- the answer for a file with n rows that passes 2 to 4: the causes 7, 5 and 6, in this order
-unfoldable pub rowsAnswer : List ℕ → ℕ → Buffers → ℕ → BuildAnswer
-rowsAnswer file factor b n =
-    cond (tooShort b n) (Refused TooShort)
-    (cond (ltb (sameHash file factor) n) (Refused (SameHash (sameHash file factor)))
-    (cond (ltb (firstWithout (rows file)) n) (Refused (NoParts (firstWithout (rows file))))
+unfoldable pub rowsAnswer : ℕ → Tables → ℕ → BuildAnswer
+rowsAnswer factor T n =
+    cond (tooShort T n) (Refused TooShort)
+    (cond (ltb (sameHash (T .file) factor) n) (Refused (SameHash (sameHash (T .file) factor)))
+    (cond (ltb (firstWithout (rows (T .file))) n) (Refused (NoParts (firstWithout (rows (T .file)))))
     (Rows n)))
 
 -- the answer for a file whose checks 2 to 4 have this answer
-unfoldable pub checkedAnswer : List ℕ → ℕ → Buffers → BuildAnswer → BuildAnswer
-checkedAnswer file factor b (Rows n) = rowsAnswer file factor b n
-checkedAnswer file factor b (Refused cause) = Refused cause
+unfoldable pub checkedAnswer : ℕ → Tables → BuildAnswer → BuildAnswer
+checkedAnswer factor T (Rows n) = rowsAnswer factor T n
+checkedAnswer factor T (Refused cause) = Refused cause
 
 -- the answer of build; of the buffers only the sizes count. Its order is 1, then 2, 3 and 4, then 7, 5 and 6
-unfoldable pub buildOf : List ℕ → ℕ → Buffers → BuildAnswer
-buildOf file factor b = cond (eqb factor 0) (Refused FactorZero) (checkedAnswer file factor b (checkOf file))
+unfoldable pub buildOf : ℕ → Tables → BuildAnswer
+buildOf factor T = cond (eqb factor 0) (Refused FactorZero) (checkedAnswer factor T (checkOf (T .file)))
 
 -- the first `size` numbers of a buffer are none, the rest is unchanged
 unfoldable pub cleared : ℕ → List ℕ → List ℕ
 cleared size t = replicate size none ++ drop size t
 
 -- the first n of each table and the first 16,384 of the area are none, the rest is unchanged
-abbrev pub allCleared : ℕ → Buffers → Buffers
-allCleared n b = lent (cleared n (b .places)) (cleared n (b .lefts)) (cleared n (b .rights)) (cleared n (b .prefixes)) (cleared 16384 (b .area))
+abbrev pub allCleared : ℕ → Tables → Tables
+allCleared n T =
+    tables (T .file) (cleared n (T .places)) (cleared n (T .lefts)) (cleared n (T .rights)) (cleared n (T .prefixes))
+    (cleared 16384 (T .area))
 
 -- the buffers after a refusal, by its number ("Buffers after")
-unfoldable pub afterRefusal : ℕ → ℕ → Buffers → Buffers
-afterRefusal number n b = cond (eqb number 5 || eqb number 6) (allCleared n b) b
+unfoldable pub afterRefusal : ℕ → ℕ → Tables → Tables
+afterRefusal number n T = cond (eqb number 5 || eqb number 6) (allCleared n T) T
 
--- what is beyond the first n of each table and the first 16,384 of the area
-abbrev pub beyond : ℕ → Buffers → Buffers
-beyond n b = lent (drop n (b .places)) (drop n (b .lefts)) (drop n (b .rights)) (drop n (b .prefixes)) (drop 16384 (b .area))
+-- the file, and what is beyond the first n of each table and the first 16,384 of the area
+abbrev pub beyond : ℕ → Tables → Tables
+beyond n T =
+    tables (T .file) (drop n (T .places)) (drop n (T .lefts)) (drop n (T .rights)) (drop n (T .prefixes))
+    (drop 16384 (T .area))
 
 -- the buffers after success: the tables are those of the file, and what is beyond is unchanged
-pub record Accepting (file : List ℕ) (n : ℕ) (b b' : Buffers) : Type 0 where
-  pub built : Built file (b' .places) (b' .lefts) (b' .rights) (b' .prefixes) (b' .area) n
-  pub beyond-kept : beyond n b' ≡ beyond n b
+pub record Accepting (n : ℕ) (T T' : Tables) : Type 0 where
+  pub built : Built T' n
+  pub beyond-kept : beyond n T' ≡ beyond n T
 
--- the answer r and the buffers b' that build leaves of b
-pub record BuildIs (file : List ℕ) (factor : ℕ) (b b' : Buffers) (r : BuildAnswer) : Type 0 where
-  pub answer : r ≡ buildOf file factor b
-  pub refused : (cause : Cause) → r ≡ Refused cause → b' ≡ afterRefusal (refusalOf cause .number) (length (rows file)) b
-  pub accepted : (n : ℕ) → r ≡ Rows n → Accepting file n b b'
+-- the answer r and the tables T' that build leaves of T
+pub record BuildIs (factor : ℕ) (T T' : Tables) (r : BuildAnswer) : Type 0 where
+  pub answer : r ≡ buildOf factor T
+  pub refused : (cause : Cause) → r ≡ Refused cause
+      → T' ≡ afterRefusal (refusalOf cause .number) (length (rows (T .file))) T
+  pub accepted : (n : ℕ) → r ≡ Rows n → Accepting n T T'

@@ -8,15 +8,16 @@ use Rattle.causes.specs.declared.BuildAnswer.{BuildAnswer}
 use Rattle.causes.specs.declared.BuildAnswer.the-variants.{Rows}
 use Rattle.phrase_file.specs.Form.{places}
 use Rattle.phrase_file.specs.Checks.{checkOf}
+use Rattle.tables.specs.Tables.{Tables}
 use Rattle.built.specs.Built.{Built}
 use Rattle.parts.specs.Parts.{RowsFound, PrefixesFound}
-use Rattle.dictionary.specs.Build.{Buffers, tooShort, sameHash, rowsAnswer, beyond}
+use Rattle.dictionary.specs.Build.{tooShort, sameHash, rowsAnswer, beyond}
 
 -- a file with n rows that passes 2 to 4, a factor other than 0, and buffers that are large enough
-pub record Buildable (file : List ℕ) (factor : ℕ) (b : Buffers) (n : ℕ) : Type 0 where
+pub record Buildable (factor : ℕ) (T : Tables) (n : ℕ) : Type 0 where
   pub some-factor : factor ≡ 0 → ⊥
-  pub passed : checkOf file ≡ Rows n
-  pub room : tooShort b n ≡ false
+  pub passed : checkOf (T .file) ≡ Rows n
+  pub room : tooShort T n ≡ false
 
 -- the same for the places, the prefixes and the search area alone
 pub record RowsFit (file placeTable prefixes area : List ℕ) (n : ℕ) : Type 0 where
@@ -42,9 +43,9 @@ pub record RowsFilled (file : List ℕ) (factor n : ℕ) (placeTable prefixes ar
   pub prefixes-beyond : drop n prefixes' ≡ drop n prefixes
   pub area-beyond : drop 16384 area' ≡ drop 16384 area
 
--- the answer r, and buffers b' that are built if it is no refusal. What is beyond is unchanged
-pub record TablesFilled (file : List ℕ) (factor n : ℕ) (b b' : Buffers) (r : BuildAnswer) : Type 0 where
-  pub answer : r ≡ rowsAnswer file factor b n
-  pub built : (m : ℕ) → r ≡ Rows m → Built file (b' .places) (b' .lefts) (b' .rights) (b' .prefixes) (b' .area) m
-  pub room : tooShort b' n ≡ false
-  pub beyond-kept : beyond n b' ≡ beyond n b
+-- the answer r, and tables T' that are built if it is no refusal. What is beyond is unchanged
+pub record TablesFilled (factor n : ℕ) (T T' : Tables) (r : BuildAnswer) : Type 0 where
+  pub answer : r ≡ rowsAnswer factor T n
+  pub built : (m : ℕ) → r ≡ Rows m → Built T' m
+  pub room : tooShort T' n ≡ false
+  pub beyond-kept : beyond n T' ≡ beyond n T

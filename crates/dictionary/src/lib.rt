@@ -3,8 +3,9 @@ ghost use mathlib.Core.Path.{_≡_};
 ghost use mathlib.Core.Bool.{false};
 ghost use Prim.Native.Nat.{_≤_};
 ghost use lib.ListN.{length};
-ghost use Rattle.dictionary.specs.Build.{lent, tooShort, cleared, allCleared, BuildIs};
+ghost use Rattle.dictionary.specs.Build.{tooShort, cleared, allCleared, BuildIs};
 ghost use Rattle.dictionary.specs.Steps.{Buildable, RowsFit, RowsFilled, TablesFilled};
+ghost use Rattle.tables.specs.Tables.{given, lent, left, before, after};
 use causes::BuildAnswer;
 use causes::Cause;
 use placed_rows::NONE;
@@ -14,14 +15,15 @@ const AREA: usize = 16384;
 
 // Whether a table has fewer than n entries, or the search area fewer than it needs.
 fn are_short(
-    n: usize,
+    file: &[u8],
     places: &[u32],
     lefts: &[u32],
     rights: &[u32],
     prefixes: &[u32],
     area: &[u32],
+    n: usize,
 ) -> bool
-    ensures { λ r. ⌜ r ≡ tooShort (lent (now (places .entry)) (now (lefts .entry)) (now (rights .entry)) (now (prefixes .entry)) (now (area .entry))) n ⌝ }
+    ensures { λ r. ⌜ r ≡ tooShort (lent file places lefts rights prefixes area) n ⌝ }
 {
     if places.len() < n {
         return true;
@@ -52,15 +54,17 @@ fn clear(table: &mut [u32], size: usize)
 
 // The first n entries of each table and the search area become NONE.
 fn clear_all(
-    n: usize,
+    file: &[u8],
     places: &mut [u32],
     lefts: &mut [u32],
     rights: &mut [u32],
     prefixes: &mut [u32],
     area: &mut [u32],
+    n: usize,
 )
-    requires { ⌜ tooShort (lent (now places) (now lefts) (now rights) (now prefixes) (now area)) n ≡ false ⌝ }
-    ensures { λ r. ⌜ lent (now (places .exit)) (now (lefts .exit)) (now (rights .exit)) (now (prefixes .exit)) (now (area .exit)) ≡ allCleared n (lent (now (places .entry)) (now (lefts .entry)) (now (rights .entry)) (now (prefixes .entry)) (now (area .entry))) ⌝ }
+    requires { ⌜ tooShort (given file places lefts rights prefixes area) n ≡ false ⌝ }
+    ensures { λ r. ⌜ left file places lefts rights prefixes area ≡ allCleared n
+        (lent file places lefts rights prefixes area) ⌝ }
 {
     clear(places, n);
     clear(lefts, n);
@@ -80,7 +84,8 @@ fn fill_rows(
     area: &mut [u32],
 ) -> usize
     requires { ⌜ RowsFit (now file) (now places) (now prefixes) (now area) n ⌝ }
-    ensures { λ r. ⌜ RowsFilled (now (file .entry)) factor n (now (places .entry)) (now (prefixes .entry)) (now (area .entry)) (now (places .exit)) (now (prefixes .exit)) (now (area .exit)) r ⌝ }
+    ensures { λ r. ⌜ RowsFilled (before file) factor n (before places) (before prefixes) (before area)
+        (after places) (after prefixes) (after area) r ⌝ }
 {
     phrase_file::fill_places(file, places);
     let clash = clashes::first_clash(file, places, n, factor, area);
@@ -102,8 +107,9 @@ fn fill_tables(
     prefixes: &mut [u32],
     area: &mut [u32],
 ) -> BuildAnswer
-    requires { ⌜ Buildable (now file) factor (lent (now places) (now lefts) (now rights) (now prefixes) (now area)) n ⌝ }
-    ensures { λ r. ⌜ TablesFilled (now (file .entry)) factor n (lent (now (places .entry)) (now (lefts .entry)) (now (rights .entry)) (now (prefixes .entry)) (now (area .entry))) (lent (now (places .exit)) (now (lefts .exit)) (now (rights .exit)) (now (prefixes .exit)) (now (area .exit))) r ⌝ }
+    requires { ⌜ Buildable factor (given file places lefts rights prefixes area) n ⌝ }
+    ensures { λ r. ⌜ TablesFilled factor n (lent file places lefts rights prefixes area)
+        (left file places lefts rights prefixes area) r ⌝ }
 {
     let same_hash = fill_rows(file, factor, n, places, prefixes, area);
     if same_hash < n {
@@ -127,14 +133,15 @@ fn build_rows(
     prefixes: &mut [u32],
     area: &mut [u32],
 ) -> BuildAnswer
-    requires { ⌜ Buildable (now file) factor (lent (now places) (now lefts) (now rights) (now prefixes) (now area)) n ⌝ }
-    ensures { λ r. ⌜ BuildIs (now (file .entry)) factor (lent (now (places .entry)) (now (lefts .entry)) (now (rights .entry)) (now (prefixes .entry)) (now (area .entry))) (lent (now (places .exit)) (now (lefts .exit)) (now (rights .exit)) (now (prefixes .exit)) (now (area .exit))) r ⌝ }
+    requires { ⌜ Buildable factor (given file places lefts rights prefixes area) n ⌝ }
+    ensures { λ r. ⌜ BuildIs factor (lent file places lefts rights prefixes area)
+        (left file places lefts rights prefixes area) r ⌝ }
 {
     let answer = fill_tables(file, factor, n, places, lefts, rights, prefixes, area);
     match answer {
         BuildAnswer::Rows(count) => BuildAnswer::Rows(count),
         BuildAnswer::Refused(cause) => {
-            clear_all(n, places, lefts, rights, prefixes, area);
+            clear_all(file, places, lefts, rights, prefixes, area, n);
             BuildAnswer::Refused(cause)
         }
     }
@@ -150,7 +157,8 @@ pub fn from_dictionary(
     prefixes: &mut [u32],
     area: &mut [u32],
 ) -> BuildAnswer
-    ensures { λ r. ⌜ BuildIs (now (file .entry)) factor (lent (now (places .entry)) (now (lefts .entry)) (now (rights .entry)) (now (prefixes .entry)) (now (area .entry))) (lent (now (places .exit)) (now (lefts .exit)) (now (rights .exit)) (now (prefixes .exit)) (now (area .exit))) r ⌝ }
+    ensures { λ r. ⌜ BuildIs factor (lent file places lefts rights prefixes area)
+        (left file places lefts rights prefixes area) r ⌝ }
 {
     if factor == 0 {
         return BuildAnswer::Refused(Cause::FactorZero);
@@ -159,7 +167,7 @@ pub fn from_dictionary(
     match checked {
         BuildAnswer::Refused(cause) => BuildAnswer::Refused(cause),
         BuildAnswer::Rows(n) => {
-            if are_short(n, places, lefts, rights, prefixes, area) {
+            if are_short(file, places, lefts, rights, prefixes, area, n) {
                 return BuildAnswer::Refused(Cause::TooShort);
             }
             build_rows(file, factor, n, places, lefts, rights, prefixes, area)

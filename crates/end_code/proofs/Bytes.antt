@@ -17,6 +17,7 @@ use Rattle.search_area.specs.Answers.{Within, LongerMatch, Reached}
 use Rattle.built.specs.Built.{dictionaryOf, Built}
 use Rattle.built.proofs.Rows.{count-is, row-bytes, lawful-is, known}
 use Rattle.end_code.specs.Codes.{ByteReady, ByteIs}
+use Rattle.tables.specs.Tables.{tables}
 
 one-byte : (r : List ℕ) (b : ℕ) (t rest : List ℕ) → b ∷ t ≡ r ++ rest → length r ≡ 1 → r ≡ b ∷ []
 one-byte [] b t rest e h = absurd (omega arith)
@@ -30,21 +31,21 @@ module _ (file places area : List ℕ) (n : ℕ) (bytes : List ℕ) (i : ℕ) (R
   split : drop i bytes ≡ b ∷ drop (suc i) bytes
   split = drop-cons bytes i 0 (R .inside)
 
-  module _ (lefts rights prefixes : List ℕ) (B : Built file places lefts rights prefixes area n) where
+  module _ (lefts rights prefixes : List ℕ) (B : Built (tables file places lefts rights prefixes area) n) where
     abbrev D : Dictionary
     D = dictionaryOf file
 
     L : Lawful D
-    L = lawful-is file places lefts rights prefixes area n B
+    L = lawful-is (tables file places lefts rights prefixes area) n B
 
     counted : D .count ≡ n
-    counted = count-is file places lefts rights prefixes area n B
+    counted = count-is (tables file places lefts rights prefixes area) n B
 
     own : D .code b < n
-    own = let k = known file places lefts rights prefixes area n B (b ∷ []) (o, tt) .0 in omega (arith, counted)
+    own = let k = known (tables file places lefts rights prefixes area) n B (b ∷ []) (o, tt) .0 in omega (arith, counted)
 
     own-bytes : row file places n (D .code b) ≡ b ∷ []
-    own-bytes = row-bytes file places lefts rights prefixes area n B (D .code b) own ∙ L .laws .byte b
+    own-bytes = row-bytes (tables file places lefts rights prefixes area) n B (D .code b) own ∙ L .laws .byte b
 
     own-begins : Begins (row file places n (D .code b)) (drop i bytes)
     own-begins = record { rest = drop (suc i) bytes; split = split ∙ ap (λ (x : List ℕ). x ++ drop (suc i) bytes) (sym own-bytes) }
@@ -62,7 +63,7 @@ module _ (file places area : List ℕ) (n : ℕ) (bytes : List ℕ) (i : ℕ) (R
         let short = m .shortest z (D .code b) own own-begins (omega (arith, ap length own-bytes)) in
         let one : row file places n r ≡ b ∷ [] = one-byte (row file places n r) b (drop (suc i) bytes) (g .0 .rest) (sym split ∙ g .0 .split) (omega (arith, g .1, ap length own-bytes)) in
         different D L .distinct r (D .code b) (omega (arith, counted)) (omega (arith, counted, own))
-        (sym (row-bytes file places lefts rights prefixes area n B r h) ∙ one ∙ sym (L .laws .byte b))
+        (sym (row-bytes (tables file places lefts rights prefixes area) n B r h) ∙ one ∙ sym (L .laws .byte b))
 
     not-none : r ≡ none → ⊥
     not-none z = let m = M .next (B .finds) root in omega (arith, m .all z (D .code b) own own-begins, ap length own-bytes)

@@ -21,6 +21,7 @@ use Rattle.end_code.specs.Joins.{sideOf, otherOf, PartReady, FirstReady,
 use Rattle.end_code.specs.Codes.{ByteReady, ByteIs, CodesTo, CodeReady, CodeIs}
 use Rattle.end_code.proofs.Sizes.{read-size, row-some}
 use Rattle.end_code.proofs.Parts.{part-ready, other-row, other-is}
+use Rattle.tables.specs.Tables.{tables}
 
 -- typed bytes in order, and one byte or a row typed beside them
 order-beside : (side : Side) (x y : List ℕ) → inOrder side (beside side x y) ≡ inOrder side x ++ inOrder side y
@@ -48,8 +49,8 @@ pub record Reaching (file places lefts rights area : List ℕ) (at-end : Bool) (
   pub ready : CodeReady file places lefts rights area n bytes i codes
   pub row : code < n
   pub within : at ≤ i
-  pub built : (prefixes : List ℕ) (B : Built file places lefts rights prefixes area n) → CodesTo file at-end bytes codes i
-      → Reached (dictionaryOf file) (lawful-is file places lefts rights prefixes area n B) (sideOf at-end) (inOrder (sideOf at-end) (take (suc i) bytes)) code (inOrder (sideOf at-end) (take at bytes))
+  pub built : (prefixes : List ℕ) (B : Built (tables file places lefts rights prefixes area) n) → CodesTo file at-end bytes codes i
+      → Reached (dictionaryOf file) (lawful-is (tables file places lefts rights prefixes area) n B) (sideOf at-end) (inOrder (sideOf at-end) (take (suc i) bytes)) code (inOrder (sideOf at-end) (take at bytes))
 
 module _ (file places lefts rights area : List ℕ) (at-end : Bool) (n : ℕ) (bytes : List ℕ) (i : ℕ) (codes : List ℕ) where
   abbrev D : Dictionary
@@ -68,9 +69,9 @@ module _ (file places lefts rights area : List ℕ) (at-end : Bool) (n : ℕ) (b
     row = F .row;
     within = omega arith;
     built = λ prefixes B agree.
-        let k = known file places lefts rights prefixes area n B (getD bytes i 0 ∷ []) (o, tt) .0 in
+        let k = known (tables file places lefts rights prefixes area) n B (getD bytes i 0 ∷ []) (o, tt) .0 in
         rw (F .built lefts rights prefixes B, take-suc bytes i 0 (R .inside), order-more side (take i bytes) (getD bytes i 0))
-        (reached-byte D (lawful-is file places lefts rights prefixes area n B) side (inOrder side (take i bytes)) (getD bytes i 0) k);
+        (reached-byte D (lawful-is (tables file places lefts rights prefixes area) n B) side (inOrder side (take i bytes)) (getD bytes i 0) k);
   }
 
   module _ (code at : ℕ) (S : Reaching file places lefts rights area at-end n bytes i codes code at) where
@@ -84,7 +85,7 @@ module _ (file places lefts rights area : List ℕ) (at-end : Bool) (n : ℕ) (b
       row = S .row;
       built = λ prefixes B agree.
           let z : at ≡ 0 = omega arith in
-          is-code code (reached-all D (lawful-is file places lefts rights prefixes area n B) side (inOrder side (take (suc i) bytes)) code
+          is-code code (reached-all D (lawful-is (tables file places lefts rights prefixes area) n B) side (inOrder side (take (suc i) bytes)) code
           (rw inOrder-nil at (rw z at (S .built prefixes B agree))));
     }
 
@@ -102,14 +103,14 @@ module _ (file places lefts rights area : List ℕ) (at-end : Bool) (n : ℕ) (b
       size = let h = S .within in let g = S .ready .inside in length-take-le at bytes (omega arith)
 
       -- the end code of the bytes before it
-      before-end : (prefixes : List ℕ) (B : Built file places lefts rights prefixes area n) → CodesTo file at-end bytes codes i
-          → EndOf D (lawful-is file places lefts rights prefixes area n B) side (inOrder side (take at bytes)) (getD codes (at - 1) 0)
+      before-end : (prefixes : List ℕ) (B : Built (tables file places lefts rights prefixes area) n) → CodesTo file at-end bytes codes i
+          → EndOf D (lawful-is (tables file places lefts rights prefixes area) n B) side (inOrder side (take at bytes)) (getD codes (at - 1) 0)
       unfolding codeAt
       before-end prefixes B agree =
           let h = S .within in
           let e : suc (at - 1) ≡ at = omega arith in
           let c : getD codes (at - 1) 0 ≡ endCode side (encode D (inOrder side (take at bytes))) = agree (at - 1) (omega arith) ∙ ap (λ (k : ℕ). endCode side (encode D (inOrder side (take k bytes)))) e in
-          rw c (end-of D (lawful-is file places lefts rights prefixes area n B) side (inOrder side (take at bytes))
+          rw c (end-of D (lawful-is (tables file places lefts rights prefixes area) n B) side (inOrder side (take at bytes))
           (λ z. omega (arith, ap length z, length-inOrder side (take at bytes), size)))
 
       module _ (r : ℕ) (F : FirstIs file places lefts rights area at-end n (getD codes (at - 1) 0) code r) where
@@ -117,7 +118,7 @@ module _ (file places lefts rights area : List ℕ) (at-end : Bool) (n : ℕ) (b
         reach-end z = record {
           row = S .row;
           built = λ prefixes B agree.
-              is-code code (reached-end D (lawful-is file places lefts rights prefixes area n B) side (inOrder side (take (suc i) bytes)) code (inOrder side (take at bytes)) (S .built prefixes B agree)
+              is-code code (reached-end D (lawful-is (tables file places lefts rights prefixes area) n B) side (inOrder side (take (suc i) bytes)) code (inOrder side (take at bytes)) (S .built prefixes B agree)
               (getD codes (at - 1) 0) (before-end prefixes B agree) r (F .built prefixes B) z);
         }
 
@@ -141,10 +142,10 @@ module _ (file places lefts rights area : List ℕ) (at-end : Bool) (n : ℕ) (b
             pub len-some : 0 < len
             len-some = omega (arith, len-is, row-some file places n o row-ready)
 
-            left : (prefixes : List ℕ) (B : Built file places lefts rights prefixes area n) → CodesTo file at-end bytes codes i
-                → (len ≤ at) × Reached D (lawful-is file places lefts rights prefixes area n B) side (inOrder side (take (suc i) bytes)) r (inOrder side (take (at - len) bytes))
+            left : (prefixes : List ℕ) (B : Built (tables file places lefts rights prefixes area) n) → CodesTo file at-end bytes codes i
+                → (len ≤ at) × Reached D (lawful-is (tables file places lefts rights prefixes area) n B) side (inOrder side (take (suc i) bytes)) r (inOrder side (take (at - len) bytes))
             left prefixes B agree =
-                let J = reached-join D (lawful-is file places lefts rights prefixes area n B) side (inOrder side (take (suc i) bytes)) code (inOrder side (take at bytes)) (S .built prefixes B agree)
+                let J = reached-join D (lawful-is (tables file places lefts rights prefixes area) n B) side (inOrder side (take (suc i) bytes)) code (inOrder side (take at bytes)) (S .built prefixes B agree)
                 (getD codes (at - 1) 0) (before-end prefixes B agree) r (F .built prefixes B) ne in
                 let p : D .bytes (otherPart D side r) ≡ D .bytes o = ap (D .bytes) (sym (other-is file places lefts rights area n (S .ready .in-form) r joined-row prefixes B at-end) ∙ sym eo) in
                 let q = left-of side (take at bytes) (J .rest) (D .bytes (otherPart D side r)) (J .split) in

@@ -19,6 +19,7 @@ use Rattle.built.proofs.Rows.{count-is, places-ready, lawful-is, tells, distinc
 use Rattle.built.proofs.InForm.{ready}
 use Rattle.end_code.specs.Joins.{sideOf, boundOf, innerOf, BesideReady, BesideIs, FirstReady, FirstIs}
 use Rattle.end_code.proofs.Parts.{bound-is, inner-is, inner-lower, inner-long, inner-single}
+use Rattle.tables.specs.Tables.{tables}
 
 module _ (file places lefts rights area : List ℕ) (n m x s : ℕ) where
   pub beside-ready : BesideReady file places lefts rights area n m x s → JoinReady file places lefts rights area n n m x s
@@ -29,14 +30,14 @@ module _ (file places lefts rights area : List ℕ) (n m x s : ℕ) where
 
 -- the join of two rows, in terms of the dictionary
 module _ (file places lefts rights area : List ℕ) (n m u v r : ℕ) (J : JoinIs file places lefts rights area n n m u v r)
-    (prefixes : List ℕ) (B : Built file places lefts rights prefixes area n) (hu : u < n) (hv : v < n) where
+    (prefixes : List ℕ) (B : Built (tables file places lefts rights prefixes area) n) (hu : u < n) (hv : v < n) where
   abbrev D : Dictionary
   D = dictionaryOf file
 
   pair-ready : PairReady file places lefts rights area n n u v
   pair-ready = record {
-    places-ready = places-ready file places lefts rights prefixes area n B;
-    parts-ready = ready file places lefts rights prefixes area n B .parts-ready;
+    places-ready = places-ready (tables file places lefts rights prefixes area) n B;
+    parts-ready = ready (tables file places lefts rights prefixes area) n B .parts-ready;
     area-room = B .area-room;
     few = omega arith;
     left-below = hu;
@@ -45,14 +46,14 @@ module _ (file places lefts rights area : List ℕ) (n m u v r : ℕ) (J : JoinI
 
   none-below : r ≡ none → (w : ℕ) → w < m → listed D w u v ≡ false
   none-below z w h = bool-cases (listed D w u v)
-      (λ e. absurd (true-false (sym (listed-one D m u v w h e) ∙ J .nothing z pair-ready D (tells file places lefts rights prefixes area n B) (distinct-rows file places lefts rights prefixes area n B) (B .finds) (B .pairs-marked))))
+      (λ e. absurd (true-false (sym (listed-one D m u v w h e) ∙ J .nothing z pair-ready D (tells (tables file places lefts rights prefixes area) n B) (distinct-rows (tables file places lefts rights prefixes area) n B) (B .finds) (B .pairs-marked))))
       (λ e. e)
 
   some-below : (r ≡ none → ⊥) → r < m
   some-below z = ⊎-elim (λ e. absurd (z e)) (λ h. h) (J .bound)
 
   is-listed : (r ≡ none → ⊥) → listed D r u v ≡ true
-  is-listed z = J .is z pair-ready D (tells file places lefts rights prefixes area n B) (distinct-rows file places lefts rights prefixes area n B) (B .finds)
+  is-listed z = J .is z pair-ready D (tells (tables file places lefts rights prefixes area) n B) (distinct-rows (tables file places lefts rights prefixes area) n B) (B .finds)
 
 module _ (file places lefts rights area : List ℕ) (n m x s r : ℕ) where
   pub beside-append : JoinIs file places lefts rights area n n m x s r → BesideIs file places lefts rights area true n m x s r
@@ -81,7 +82,7 @@ pub record Searching (file places lefts rights area : List ℕ) (at-end : Bool) 
   pub row : x < n
   pub most : bound ≤ n
   pub best-row : (best ≡ none) ⊎ (best < n)
-  pub built : (prefixes : List ℕ) (B : Built file places lefts rights prefixes area n) → Spine.Searching (dictionaryOf file) (lawful-is file places lefts rights prefixes area n B) (sideOf at-end) u s x bound best
+  pub built : (prefixes : List ℕ) (B : Built (tables file places lefts rights prefixes area) n) → Spine.Searching (dictionaryOf file) (lawful-is (tables file places lefts rights prefixes area) n B) (sideOf at-end) u s x bound best
 
 module _ (file places lefts rights area : List ℕ) (at-end : Bool) (n u s : ℕ) where
   pub search-start : FirstReady file places lefts rights area n u s → Searching file places lefts rights area at-end n u s u n none
@@ -91,8 +92,8 @@ module _ (file places lefts rights area : List ℕ) (at-end : Bool) (n u s : ℕ
     most = omega arith;
     best-row = inl refl;
     built = λ prefixes B.
-        let e = count-is file places lefts rights prefixes area n B in
-        let L = lawful-is file places lefts rights prefixes area n B in
+        let e = count-is (tables file places lefts rights prefixes area) n B in
+        let L = lawful-is (tables file places lefts rights prefixes area) n B in
         subst (λ (m : ℕ). Spine.Searching (dictionaryOf file) L (sideOf at-end) u s u m none) e (Spine.search-start (dictionaryOf file) L (sideOf at-end) u s (omega (arith, R .row)));
   }
 
@@ -128,7 +129,7 @@ module _ (file places lefts rights area : List ℕ) (at-end : Bool) (n u s : ℕ
               most = top;
               best-row = found best' eb;
               built = λ prefixes B.
-                  let L = lawful-is file places lefts rights prefixes area n B in
+                  let L = lawful-is (tables file places lefts rights prefixes area) n B in
                   rw (eb, ep, eo, bound-is at-end x, inner-is file places lefts rights area n (S .ready .in-form) x (S .row) prefixes B at-end)
                   (Spine.search-next (dictionaryOf file) L (sideOf at-end) u s x bound best v (S .built prefixes B) (F .built prefixes B (S .row) (S .ready .typed))
                   (inner-long file places lefts rights area n (S .ready .in-form) x (S .row) prefixes B at-end (rw (← ep) d)));
@@ -144,6 +145,6 @@ module _ (file places lefts rights area : List ℕ) (at-end : Bool) (n u s : ℕ
         bound = found best' eb;
         built = λ prefixes B.
             rw eb
-            (Spine.search-end (dictionaryOf file) (lawful-is file places lefts rights prefixes area n B) (sideOf at-end) u s x bound best v (S .built prefixes B) (F .built prefixes B (S .row) (S .ready .typed))
+            (Spine.search-end (dictionaryOf file) (lawful-is (tables file places lefts rights prefixes area) n B) (sideOf at-end) u s x bound best v (S .built prefixes B) (F .built prefixes B (S .row) (S .ready .typed))
             (inner-single file places lefts rights area n (S .ready .in-form) x (S .row) prefixes B at-end (sym ep ∙ d)));
       }

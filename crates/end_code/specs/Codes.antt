@@ -5,6 +5,7 @@ use mathlib.Core.Bool.{Bool}
 use Prim.Native.Nat.{ℕ, _≤_, _<_}
 use lib.ListN.{length, getD}
 use Rattle.theory.specs.Typing.{codeAt}
+use Rattle.tables.specs.Tables.{tables}
 use Rattle.tables.specs.Ready.{PlacesReady}
 use Rattle.built.specs.Built.{dictionaryOf, Built}
 use Rattle.end_code.specs.Tables.{PartsInForm, FrontRows}
@@ -19,7 +20,7 @@ pub record ByteReady (file places area : List ℕ) (n : ℕ) (bytes : List ℕ) 
 -- a row, which is that of byte i
 pub record ByteIs (file places area : List ℕ) (n : ℕ) (bytes : List ℕ) (i r : ℕ) : Type 0 where
   pub row : r < n
-  pub built : (lefts rights prefixes : List ℕ) → Built file places lefts rights prefixes area n → r ≡ dictionaryOf file .code (getD bytes i 0)
+  pub built : (lefts rights prefixes : List ℕ) → Built (tables file places lefts rights prefixes area) n → r ≡ dictionaryOf file .code (getD bytes i 0)
 
 -- the first i entries are the end codes of the shorter ones
 abbrev pub CodesTo : List ℕ → Bool → List ℕ → List ℕ → ℕ → Type 0
@@ -34,4 +35,4 @@ pub record CodeReady (file places lefts rights area : List ℕ) (n : ℕ) (bytes
 -- a row; behind true end codes the end code of the first i + 1 typed bytes
 pub record CodeIs (file places lefts rights area : List ℕ) (at-end : Bool) (n : ℕ) (bytes : List ℕ) (i : ℕ) (codes : List ℕ) (r : ℕ) : Type 0 where
   pub row : r < n
-  pub built : (prefixes : List ℕ) → Built file places lefts rights prefixes area n → CodesTo file at-end bytes codes i → r ≡ codeAt (dictionaryOf file) (sideOf at-end) bytes i
+  pub built : (prefixes : List ℕ) → Built (tables file places lefts rights prefixes area) n → CodesTo file at-end bytes codes i → r ≡ codeAt (dictionaryOf file) (sideOf at-end) bytes i

@@ -10,6 +10,7 @@ use Rattle.theory.specs.Typing.{Side, append, prepend}
 use Rattle.theory.specs.FirstJoin.{JoinBelow, FirstJoin}
 use Rattle.built.specs.Built.{dictionaryOf, Built}
 use Rattle.end_code.specs.Tables.{PartsInForm}
+use Rattle.tables.specs.Tables.{tables}
 
 -- whether rows are typed at the end of the text, or at its front
 abbrev pub sideOf : Bool → Side
@@ -46,7 +47,7 @@ pub record BesideReady (file places lefts rights area : List ℕ) (n m x s : ℕ
 -- the row below m that has x and, typed beside it, s as its parts
 pub record BesideIs (file places lefts rights area : List ℕ) (at-end : Bool) (n m x s r : ℕ) : Type 0 where
   pub bound : (r ≡ none) ⊎ (r < m)
-  pub built : (prefixes : List ℕ) → Built file places lefts rights prefixes area n → x < n → s < n → JoinBelow (dictionaryOf file) (sideOf at-end) m x s r
+  pub built : (prefixes : List ℕ) → Built (tables file places lefts rights prefixes area) n → x < n → s < n → JoinBelow (dictionaryOf file) (sideOf at-end) m x s r
 
 -- what the first join needs: tables in form, and two rows
 pub record FirstReady (file places lefts rights area : List ℕ) (n u s : ℕ) : Type 0 where
@@ -57,4 +58,4 @@ pub record FirstReady (file places lefts rights area : List ℕ) (n u s : ℕ) :
 -- the lowest row that joins s and what u has at that end by then
 pub record FirstIs (file places lefts rights area : List ℕ) (at-end : Bool) (n u s r : ℕ) : Type 0 where
   pub bound : (r ≡ none) ⊎ (r < n)
-  pub built : (prefixes : List ℕ) → Built file places lefts rights prefixes area n → FirstJoin (dictionaryOf file) (sideOf at-end) u s r
+  pub built : (prefixes : List ℕ) → Built (tables file places lefts rights prefixes area) n → FirstJoin (dictionaryOf file) (sideOf at-end) u s r

@@ -2,6 +2,7 @@
 use mathlib.Core.Path.{_≡_, subst}
 use mathlib.Core.List.{List}
 use Prim.Native.Nat.{ℕ}
+use Rattle.tables.specs.Tables.{Tables}
 use Rattle.tables.specs.declared.Answer.{Answer}
 use Rattle.answers.specs.Answers.{answerOf}
 use Rattle.typing_core.specs.Sides.{sideOf}
@@ -10,22 +11,22 @@ use Rattle.typing.specs.declared.State.{State}
 use Rattle.typing.specs.Calls.{Extended, TokenCounted}
 use Rattle.exports.specs.Packed.{packedOf, Packs}
 
-module _ {file places lefts rights prefixes area : List ℕ} {side named : Side} {len : ℕ} {states : List State} {a : Answer} {r : ℕ} where
+module _ {T : Tables} {side named : Side} {len : ℕ} {states : List State} {a : Answer} {r : ℕ} where
   -- push and extend
   pub extended : {typed : List ℕ} {len' : ℕ} {states' : List State} → side ≡ named
-      → Extended file places lefts rights prefixes area (sideOf side) len states typed a len' states' → r ≡ packedOf (answerOf a)
-      → Packs answerOf (λ (x : Answer). Extended file places lefts rights prefixes area (sideOf named) len states typed x len' states') r
+      → Extended T (sideOf side) len states typed a len' states' → r ≡ packedOf (answerOf a)
+      → Packs answerOf (λ (x : Answer). Extended T (sideOf named) len states typed x len' states') r
   extended {typed} {len'} {states'} e met is = record {
     answer = a;
-    met = subst (λ (x : Side). Extended file places lefts rights prefixes area (sideOf x) len states typed a len' states') e met;
+    met = subst (λ (x : Side). Extended T (sideOf x) len states typed a len' states') e met;
     is = is;
   }
 
   -- `token_count`
-  pub token-counted : side ≡ named → TokenCounted file places lefts rights prefixes area (sideOf side) len states a → r ≡ packedOf (answerOf a)
-      → Packs answerOf (λ (x : Answer). TokenCounted file places lefts rights prefixes area (sideOf named) len states x) r
+  pub token-counted : side ≡ named → TokenCounted T (sideOf side) len states a → r ≡ packedOf (answerOf a)
+      → Packs answerOf (λ (x : Answer). TokenCounted T (sideOf named) len states x) r
   token-counted e met is = record {
     answer = a;
-    met = subst (λ (x : Side). TokenCounted file places lefts rights prefixes area (sideOf x) len states a) e met;
+    met = subst (λ (x : Side). TokenCounted T (sideOf x) len states a) e met;
     is = is;
   }

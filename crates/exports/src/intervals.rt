@@ -1,4 +1,5 @@
 // The interval calls for C, document 01's IntervalEncoding: each packs the answer of the public call of crate `interval_prepare` or `interval_count`.
+ghost use Rattle.tables.specs.Tables.{lent, before, after};
 ghost use Rattle.tables.specs.declared.Answer.{Answer};
 ghost use Rattle.answers.specs.Answers.{answerOf};
 ghost use Rattle.interval_prepare.specs.Answers.{Prepares};
@@ -22,7 +23,9 @@ pub extern "C" fn bpe_interval_prepare(
     depths: &mut [u32],
     work: &mut [u32],
 ) -> u64
-    ensures { λ r. ⌜ Packs answerOf (λ (a : Answer). Prepares (now (file .entry)) (now (places .entry)) (now (lefts .entry)) (now (rights .entry)) (now (prefixes .entry)) (now (area .entry)) (now (text .entry)) (now («last_codes» .entry)) (now (numbers .entry)) (now (ends .entry)) (now (depths .entry)) (now (work .entry)) (now («last_codes» .exit)) (now (numbers .exit)) (now (ends .exit)) (now (depths .exit)) (now (work .exit)) a) r ⌝ }
+    ensures { λ r. ⌜ Packs answerOf (λ (a : Answer). Prepares (lent file places lefts rights prefixes area)
+        (before text) (before «last_codes») (before numbers) (before ends) (before depths) (before work)
+        (after «last_codes») (after numbers) (after ends) (after depths) (after work) a) r ⌝ }
 {
     pack_answer(interval_prepare::prepare(
         file,
@@ -58,7 +61,9 @@ pub extern "C" fn bpe_interval_count(
     end: usize,
     work: &mut [u32],
 ) -> u64
-    ensures { λ r. ⌜ Packs answerOf (λ (a : Answer). Counts (now (file .entry)) (now (places .entry)) (now (lefts .entry)) (now (rights .entry)) (now (prefixes .entry)) (now (area .entry)) (now (text .entry)) (now («last_codes» .entry)) (now (numbers .entry)) (now (ends .entry)) (now (depths .entry)) start end (now (work .entry)) (now (work .exit)) a) r ⌝ }
+    ensures { λ r. ⌜ Packs answerOf (λ (a : Answer). Counts (lent file places lefts rights prefixes area)
+        (before text) (before «last_codes») (before numbers) (before ends) (before depths) start end (before work)
+        (after work) a) r ⌝ }
 {
     pack_answer(interval_count::count(
         file,

@@ -4,12 +4,13 @@ ghost use mathlib.Core.Path.{_≡_};
 ghost use mathlib.Core.List.{[], _∷_};
 ghost use Rattle.causes.specs.Causes.{buildAnswerOf};
 ghost use Rattle.causes.specs.declared.BuildAnswer.{BuildAnswer};
+ghost use Rattle.tables.specs.Tables.{lent, left, before, after};
 ghost use Rattle.tables.specs.declared.Answer.{Answer};
 ghost use Rattle.tables.specs.Answers.{numTokensOf, tokenLenOf};
 ghost use Rattle.answers.specs.Answers.{answerOf};
 ghost use Rattle.pair_check.specs.declared.PairAnswer.{PairAnswer};
 ghost use Rattle.pair_check.specs.Pair.{PairChecked};
-ghost use Rattle.dictionary.specs.Build.{lent, BuildIs};
+ghost use Rattle.dictionary.specs.Build.{BuildIs};
 ghost use Rattle.theory.specs.Merge.{encode};
 ghost use Rattle.theory.specs.Shortest.{shortest, greedy};
 ghost use Rattle.decoder.specs.Decoding.{Decodes};
@@ -105,7 +106,8 @@ pub extern "C" fn bpe_from_dictionary(
     prefixes: &mut [u32],
     area: &mut [u32],
 ) -> u64
-    ensures { λ r. ⌜ Packs buildAnswerOf (λ (a : BuildAnswer). BuildIs (now (file .entry)) factor (lent (now (places .entry)) (now (lefts .entry)) (now (rights .entry)) (now (prefixes .entry)) (now (area .entry))) (lent (now (places .exit)) (now (lefts .exit)) (now (rights .exit)) (now (prefixes .exit)) (now (area .exit))) a) r ⌝ }
+    ensures { λ r. ⌜ Packs buildAnswerOf (λ (a : BuildAnswer). BuildIs factor
+        (lent file places lefts rights prefixes area) (left file places lefts rights prefixes area) a) r ⌝ }
 {
     let answer = dictionary::from_dictionary(file, factor, places, lefts, rights, prefixes, area);
     pack_build_answer(answer)
@@ -122,7 +124,7 @@ pub extern "C" fn bpe_is_valid_token_pair(
     token1: u32,
     token2: u32,
 ) -> u64
-    ensures { λ r. ⌜ Packs pairAnswerOf (PairChecked (now (file .entry)) (now (places .entry)) (now (lefts .entry)) (now (rights .entry)) (now (prefixes .entry)) (now (area .entry)) token1 token2) r ⌝ }
+    ensures { λ r. ⌜ Packs pairAnswerOf (PairChecked (lent file places lefts rights prefixes area) token1 token2) r ⌝ }
 {
     let answer = pair_check::is_valid_token_pair(
         file,
@@ -146,7 +148,8 @@ pub extern "C" fn bpe_num_tokens(
     prefixes: &[u32],
     area: &[u32],
 ) -> u64
-    ensures { λ r. ⌜ Packs answerOf (λ (a : Answer). a ≡ numTokensOf (now (file .entry)) (now (places .entry)) (now (lefts .entry)) (now (rights .entry)) (now (prefixes .entry)) (now (area .entry))) r ⌝ }
+    ensures { λ r. ⌜ Packs answerOf (λ (a : Answer). a ≡ numTokensOf (lent file places lefts rights prefixes area))
+        r ⌝ }
 {
     pack_answer(tables::num_tokens(file, places, lefts, rights, prefixes, area))
 }
@@ -161,7 +164,8 @@ pub extern "C" fn bpe_token_len(
     area: &[u32],
     token: u32,
 ) -> u64
-    ensures { λ r. ⌜ Packs answerOf (λ (a : Answer). a ≡ tokenLenOf (now (file .entry)) (now (places .entry)) (now (lefts .entry)) (now (rights .entry)) (now (prefixes .entry)) (now (area .entry)) token) r ⌝ }
+    ensures { λ r. ⌜ Packs answerOf (λ (a : Answer). a ≡ tokenLenOf (lent file places lefts rights prefixes area)
+        token) r ⌝ }
 {
     pack_answer(tables::token_len(file, places, lefts, rights, prefixes, area, token))
 }
@@ -178,7 +182,8 @@ pub extern "C" fn bpe_encode_via_bitfield(
     out: &mut [u32],
     work: &mut [u32],
 ) -> u64
-    ensures { λ r. ⌜ Packs answerOf (λ (a : Answer). Sends encode (now (file .entry)) (now (places .entry)) (now (lefts .entry)) (now (rights .entry)) (now (prefixes .entry)) (now (area .entry)) (now (text .entry)) (now (out .entry)) (now (work .entry)) (now (out .exit)) (now (work .exit)) a) r ⌝ }
+    ensures { λ r. ⌜ Packs answerOf (λ (a : Answer). Sends encode (lent file places lefts rights prefixes area)
+        (before text) (before out) (before work) (after out) (after work) a) r ⌝ }
 {
     pack_answer(byte_pair_encoding::encode_via_bitfield(
         file,
@@ -205,7 +210,8 @@ pub extern "C" fn bpe_encode_via_backtracking(
     out: &mut [u32],
     work: &mut [u32],
 ) -> u64
-    ensures { λ r. ⌜ Packs answerOf (λ (a : Answer). Sends encode (now (file .entry)) (now (places .entry)) (now (lefts .entry)) (now (rights .entry)) (now (prefixes .entry)) (now (area .entry)) (now (text .entry)) (now (out .entry)) (now (work .entry)) (now (out .exit)) (now (work .exit)) a) r ⌝ }
+    ensures { λ r. ⌜ Packs answerOf (λ (a : Answer). Sends encode (lent file places lefts rights prefixes area)
+        (before text) (before out) (before work) (after out) (after work) a) r ⌝ }
 {
     pack_answer(byte_pair_encoding::encode_via_backtracking(
         file,
@@ -232,7 +238,8 @@ pub extern "C" fn bpe_encode_via_table(
     out: &mut [u32],
     work: &mut [u32],
 ) -> u64
-    ensures { λ r. ⌜ Packs answerOf (λ (a : Answer). Sends encode (now (file .entry)) (now (places .entry)) (now (lefts .entry)) (now (rights .entry)) (now (prefixes .entry)) (now (area .entry)) (now (text .entry)) (now (out .entry)) (now (work .entry)) (now (out .exit)) (now (work .exit)) a) r ⌝ }
+    ensures { λ r. ⌜ Packs answerOf (λ (a : Answer). Sends encode (lent file places lefts rights prefixes area)
+        (before text) (before out) (before work) (after out) (after work) a) r ⌝ }
 {
     pack_answer(byte_pair_encoding::encode_via_table(
         file,
@@ -259,7 +266,8 @@ pub extern "C" fn bpe_encode_minimal(
     out: &mut [u32],
     work: &mut [u32],
 ) -> u64
-    ensures { λ r. ⌜ Packs answerOf (λ (a : Answer). Sends shortest (now (file .entry)) (now (places .entry)) (now (lefts .entry)) (now (rights .entry)) (now (prefixes .entry)) (now (area .entry)) (now (text .entry)) (now (out .entry)) (now (work .entry)) (now (out .exit)) (now (work .exit)) a) r ⌝ }
+    ensures { λ r. ⌜ Packs answerOf (λ (a : Answer). Sends shortest (lent file places lefts rights prefixes area)
+        (before text) (before out) (before work) (after out) (after work) a) r ⌝ }
 {
     pack_answer(byte_pair_encoding::encode_minimal(
         file,
@@ -286,7 +294,8 @@ pub extern "C" fn bpe_encode_greedy(
     out: &mut [u32],
     work: &mut [u32],
 ) -> u64
-    ensures { λ r. ⌜ Packs answerOf (λ (a : Answer). Sends greedy (now (file .entry)) (now (places .entry)) (now (lefts .entry)) (now (rights .entry)) (now (prefixes .entry)) (now (area .entry)) (now (text .entry)) (now (out .entry)) (now (work .entry)) (now (out .exit)) (now (work .exit)) a) r ⌝ }
+    ensures { λ r. ⌜ Packs answerOf (λ (a : Answer). Sends greedy (lent file places lefts rights prefixes area)
+        (before text) (before out) (before work) (after out) (after work) a) r ⌝ }
 {
     pack_answer(byte_pair_encoding::encode_greedy(
         file,
@@ -312,7 +321,8 @@ pub extern "C" fn bpe_count(
     text: &[u8],
     work: &mut [u32],
 ) -> u64
-    ensures { λ r. ⌜ Packs answerOf (λ (a : Answer). Counts (now (file .entry)) (now (places .entry)) (now (lefts .entry)) (now (rights .entry)) (now (prefixes .entry)) (now (area .entry)) (now (text .entry)) (now (work .entry)) (now (work .exit)) a) r ⌝ }
+    ensures { λ r. ⌜ Packs answerOf (λ (a : Answer). Counts (lent file places lefts rights prefixes area)
+        (before text) (before work) (after work) a) r ⌝ }
 {
     pack_answer(byte_pair_encoding::count(file, places, lefts, rights, prefixes, area, text, work))
 }
@@ -329,7 +339,8 @@ pub extern "C" fn bpe_count_till_limit(
     limit: u64,
     work: &mut [u32],
 ) -> u64
-    ensures { λ r. ⌜ Packs limitAnswerOf (λ (a : LimitAnswer). CountsTillLimit (now (file .entry)) (now (places .entry)) (now (lefts .entry)) (now (rights .entry)) (now (prefixes .entry)) (now (area .entry)) (now (text .entry)) limit (now (work .entry)) (now (work .exit)) a) r ⌝ }
+    ensures { λ r. ⌜ Packs limitAnswerOf (λ (a : LimitAnswer). CountsTillLimit
+        (lent file places lefts rights prefixes area) (before text) limit (before work) (after work) a) r ⌝ }
 {
     pack_limit_answer(byte_pair_encoding::count_till_limit(
         file,
@@ -355,7 +366,8 @@ pub extern "C" fn bpe_decode_tokens(
     tokens: &[u32],
     out: &mut [u8],
 ) -> u64
-    ensures { λ r. ⌜ Packs answerOf (λ (a : Answer). Decodes (now (file .entry)) (now (places .entry)) (now (lefts .entry)) (now (rights .entry)) (now (prefixes .entry)) (now (area .entry)) (now (tokens .entry)) (now (out .entry)) (now (out .exit)) a) r ⌝ }
+    ensures { λ r. ⌜ Packs answerOf (λ (a : Answer). Decodes (lent file places lefts rights prefixes area)
+        (before tokens) (before out) (after out) a) r ⌝ }
 {
     pack_answer(decoder::decode_tokens(file, places, lefts, rights, prefixes, area, tokens, out))
 }
@@ -371,7 +383,8 @@ pub extern "C" fn bpe_token_bytes(
     token: u32,
     out: &mut [u8],
 ) -> u64
-    ensures { λ r. ⌜ Packs answerOf (λ (a : Answer). Decodes (now (file .entry)) (now (places .entry)) (now (lefts .entry)) (now (rights .entry)) (now (prefixes .entry)) (now (area .entry)) (token ∷ []) (now (out .entry)) (now (out .exit)) a) r ⌝ }
+    ensures { λ r. ⌜ Packs answerOf (λ (a : Answer). Decodes (lent file places lefts rights prefixes area)
+        (token ∷ []) (before out) (after out) a) r ⌝ }
 {
     pack_answer(decoder::token_bytes(file, places, lefts, rights, prefixes, area, token, out))
 }

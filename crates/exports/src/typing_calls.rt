@@ -3,6 +3,7 @@
 // records are `#[repr(C)]` structs of that crate. The proofs of these functions are carried over by tools/carry.
 ghost use mathlib.Core.List.{[], _∷_};
 ghost use lib.ListN.{length};
+ghost use Rattle.tables.specs.Tables.{lent, before, after};
 ghost use Rattle.tables.specs.declared.Answer.{Answer};
 ghost use Rattle.answers.specs.Answers.{answerOf};
 ghost use Rattle.typing_core.specs.Sides.{sideOf, sideNumbered};
@@ -27,11 +28,9 @@ pub extern "C" fn bpe_push(
     head: &mut Head,
     states: &mut [State],
 ) -> u64
-    ensures { λ r. ⌜ Packs answerOf (λ (a : Answer). Extended
-        (now (file .entry)) (now (places .entry)) (now (lefts .entry))
-        (now (rights .entry)) (now (prefixes .entry)) (now (area .entry))
-        (sideOf (sideNumbered side)) (now (head .entry) .len) (now (states .entry)) (byte ∷ []) a
-        (now (head .exit) .len) (now (states .exit))) r ⌝ }
+    ensures { λ r. ⌜ Packs answerOf (λ (a : Answer). Extended (lent file places lefts rights prefixes area)
+        (sideOf (sideNumbered side)) (now (head .entry) .len) (before states) (byte ∷ []) a (now (head .exit) .len)
+        (after states)) r ⌝ }
 {
     let answer = typing::push(
         side_numbered(side),
@@ -62,11 +61,9 @@ pub extern "C" fn bpe_extend(
     head: &mut Head,
     states: &mut [State],
 ) -> u64
-    ensures { λ r. ⌜ Packs answerOf (λ (a : Answer). Extended
-        (now (file .entry)) (now (places .entry)) (now (lefts .entry))
-        (now (rights .entry)) (now (prefixes .entry)) (now (area .entry))
-        (sideOf (sideNumbered side)) (now (head .entry) .len) (now (states .entry)) (now (bytes .entry)) a
-        (now (head .exit) .len) (now (states .exit))) r ⌝ }
+    ensures { λ r. ⌜ Packs answerOf (λ (a : Answer). Extended (lent file places lefts rights prefixes area)
+        (sideOf (sideNumbered side)) (now (head .entry) .len) (before states) (before bytes) a
+        (now (head .exit) .len) (after states)) r ⌝ }
 {
     let answer = typing::extend(
         side_numbered(side),
@@ -106,10 +103,8 @@ pub extern "C" fn bpe_token_count(
     head: &Head,
     states: &[State],
 ) -> u64
-    ensures { λ r. ⌜ Packs answerOf (λ (a : Answer). TokenCounted
-        (now (file .entry)) (now (places .entry)) (now (lefts .entry))
-        (now (rights .entry)) (now (prefixes .entry)) (now (area .entry))
-        (sideOf (sideNumbered side)) (now (head .entry) .len) (now (states .entry)) a) r ⌝ }
+    ensures { λ r. ⌜ Packs answerOf (λ (a : Answer). TokenCounted (lent file places lefts rights prefixes area)
+        (sideOf (sideNumbered side)) (now (head .entry) .len) (before states) a) r ⌝ }
 {
     let answer = typing::token_count(
         side_numbered(side),

@@ -11,6 +11,7 @@ use borrow.Author.Tests.{lt-ltb, le-ltb}
 use Rattle.causes.specs.declared.Cause.{Cause}
 use Rattle.causes.specs.declared.Cause.the-variants.{TooShort, OutOfForm, TooLong, BadInterval}
 use Rattle.phrase_file.proofs.Checks.{accepted}
+use Rattle.tables.specs.Tables.{Tables}
 use Rattle.tables.specs.declared.Form.{Form}
 use Rattle.tables.specs.declared.Form.the-variants.{Rows, Out}
 use Rattle.tables.specs.declared.Answer.the-variants.{Number, Refused}
@@ -21,8 +22,8 @@ use Rattle.interval_count.specs.Steps.{PieceReady, PieceCounts}
 use Rattle.interval_count.specs.Answers.{intervalRefusal, refusal, CoreReady, CoreCounts, Counts}
 use Rattle.interval_count.proofs.Forms.{Entries, entries}
 
-module _ (file places lefts rights prefixes area : List ℕ) (n : ℕ) (text codes numbers ends depths : List ℕ) (from to : ℕ) (work : List ℕ)
-    (R : CoreReady file places lefts rights prefixes area n text codes numbers ends depths from to work) where
+module _ (T : Tables) (n : ℕ) (text codes numbers ends depths : List ℕ) (from to : ℕ) (work : List ℕ)
+    (R : CoreReady T n text codes numbers ends depths from to work) where
   abbrev piece : List ℕ
   piece = take (to - from) (drop from text)
 
@@ -32,7 +33,7 @@ module _ (file places lefts rights prefixes area : List ℕ) (n : ℕ) (text cod
   tables : Entries n text codes numbers ends depths
   tables = entries n text codes numbers ends depths (R .in-form)
 
-  pub piece-ready : PieceReady file places lefts rights prefixes area n piece codes numbers ends depths from to work
+  pub piece-ready : PieceReady T n piece codes numbers ends depths from to work
   piece-ready =
       let s = size in
       let t = R .inside in
@@ -48,8 +49,8 @@ module _ (file places lefts rights prefixes area : List ℕ) (n : ℕ) (text cod
         shallow = omega (arith, tables .depths-few to t);
       }
 
-  pub piece-counted : (r : ℕ) (work' : List ℕ) → PieceCounts file places lefts rights prefixes area n piece codes numbers ends depths from to work r work'
-      → CoreCounts file places lefts rights prefixes area n text codes numbers ends depths from to work r work'
+  pub piece-counted : (r : ℕ) (work' : List ℕ) → PieceCounts T n piece codes numbers ends depths from to work r work'
+      → CoreCounts T n text codes numbers ends depths from to work r work'
   piece-counted r work' P =
       let s = size in
       let z : length piece + (length text - length piece) ≡ length text = omega (arith, R .inside) in
@@ -65,12 +66,14 @@ module _ (file places lefts rights prefixes area : List ℕ) (n : ℕ) (text cod
         built = λ B Q. P .built B text (R .inside) refl Q;
       }
 
-module _ (file placeTable lefts rights prefixes area text codes numbers ends depths : List ℕ) (from to : ℕ) (work : List ℕ) where
-  abbrev form : Form
-  form = formOf file placeTable lefts rights prefixes area
+module _ (T : Tables) (text codes numbers ends depths : List ℕ) (from to : ℕ) (work : List ℕ) where
+  open Tables T using (file)
 
-  refused : (cause : Cause) → refusal file placeTable lefts rights prefixes area text codes numbers ends depths from to work ≡ some cause
-      → Counts file placeTable lefts rights prefixes area text codes numbers ends depths from to work work (Refused cause)
+  abbrev form : Form
+  form = formOf T
+
+  refused : (cause : Cause) → refusal T text codes numbers ends depths from to work ≡ some cause
+      → Counts T text codes numbers ends depths from to work work (Refused cause)
   refused cause e = record {
     count = 0;
     answer = rw e;
@@ -79,57 +82,57 @@ module _ (file placeTable lefts rights prefixes area text codes numbers ends dep
     built = λ n B P f. absurd (let z : _≡_ {A = ℕ} 0 1 = cc in omega arith);
   }
 
-  pub refused-long : 4096 < length text → Counts file placeTable lefts rights prefixes area text codes numbers ends depths from to work work (Refused TooLong)
+  pub refused-long : 4096 < length text → Counts T text codes numbers ends depths from to work work (Refused TooLong)
   unfolding intervalRefusal
   refused-long h = refused TooLong (rw (lt-ltb 4096 (length text) h))
 
   module _ (short : length text ≤ 4096) where
-    pub refused-short : length work < length text → Counts file placeTable lefts rights prefixes area text codes numbers ends depths from to work work (Refused TooShort)
+    pub refused-short : length work < length text → Counts T text codes numbers ends depths from to work work (Refused TooShort)
     unfolding intervalRefusal
     refused-short h = refused TooShort (rw (le-ltb 4096 (length text) short, lt-ltb (length work) (length text) h))
 
     module _ (room : length text ≤ length work) where
-      pub refused-out : form ≡ Out → Counts file placeTable lefts rights prefixes area text codes numbers ends depths from to work work (Refused OutOfForm)
+      pub refused-out : form ≡ Out → Counts T text codes numbers ends depths from to work work (Refused OutOfForm)
       unfolding intervalRefusal
       refused-out e = refused OutOfForm (rw (le-ltb 4096 (length text) short, le-ltb (length work) (length text) room, e))
 
       module _ (n : ℕ) (e : form ≡ Rows n) where
         pub refused-interval : intervalInForm n text codes numbers ends depths ≡ false
-            → Counts file placeTable lefts rights prefixes area text codes numbers ends depths from to work work (Refused OutOfForm)
+            → Counts T text codes numbers ends depths from to work work (Refused OutOfForm)
         unfolding intervalRefusal
         refused-interval i = refused OutOfForm (rw (le-ltb 4096 (length text) short, le-ltb (length work) (length text) room, e, i))
 
         module _ (i : intervalInForm n text codes numbers ends depths ≡ true) where
-          pub refused-order : to < from → Counts file placeTable lefts rights prefixes area text codes numbers ends depths from to work work (Refused BadInterval)
+          pub refused-order : to < from → Counts T text codes numbers ends depths from to work work (Refused BadInterval)
           unfolding intervalRefusal
           refused-order h = refused BadInterval (rw (le-ltb 4096 (length text) short, le-ltb (length work) (length text) room, e, i, lt-ltb to from h))
 
           module _ (order : from ≤ to) where
-            pub refused-end : length text < to → Counts file placeTable lefts rights prefixes area text codes numbers ends depths from to work work (Refused BadInterval)
+            pub refused-end : length text < to → Counts T text codes numbers ends depths from to work work (Refused BadInterval)
             unfolding intervalRefusal
             refused-end h = refused BadInterval (rw (le-ltb 4096 (length text) short, le-ltb (length work) (length text) room, e, i, le-ltb to from order, lt-ltb (length text) to h))
 
             module _ (inside : to ≤ length text) where
-              pub none-refused : refusal file placeTable lefts rights prefixes area text codes numbers ends depths from to work ≡ none
+              pub none-refused : refusal T text codes numbers ends depths from to work ≡ none
               unfolding intervalRefusal
               none-refused = rw (le-ltb 4096 (length text) short, le-ltb (length work) (length text) room, e, i, le-ltb to from order, le-ltb (length text) to inside)
 
-              pub core-ready : CoreReady file placeTable lefts rights prefixes area n text codes numbers ends depths from to work
+              pub core-ready : CoreReady T n text codes numbers ends depths from to work
               core-ready = record {
-                ready = record { tables = ready file placeTable lefts rights prefixes area n e; short = short; room = room };
+                ready = record { tables = ready T n e; short = short; room = room };
                 in-form = i;
                 ordered = order;
                 inside = inside;
               }
 
-              pub counted : (r : ℕ) (work' : List ℕ) → CoreCounts file placeTable lefts rights prefixes area n text codes numbers ends depths from to work r work'
-                  → Counts file placeTable lefts rights prefixes area text codes numbers ends depths from to work work' (Number r)
+              pub counted : (r : ℕ) (work' : List ℕ) → CoreCounts T n text codes numbers ends depths from to work r work'
+                  → Counts T text codes numbers ends depths from to work work' (Number r)
               counted r work' C = record {
                 count = r;
                 answer = rw none-refused;
                 refused = λ cause f. absurd (let g = none-refused in let z : _≡_ {A = ℕ} 0 1 = cc in omega arith);
                 counted = λ _. C .counted;
                 built = λ m B P _.
-                    let q : m ≡ n = accepted file m (B .passed) .count ∙ sym (ready file placeTable lefts rights prefixes area n e .places-ready .count) in
+                    let q : m ≡ n = accepted file m (B .passed) .count ∙ sym (ready T n e .places-ready .count) in
                     C .built (rw q at B) P;
               }

@@ -20,21 +20,24 @@ use Rattle.backtrack_encoder.proofs.Stepping.{on-the-way}
 use Rattle.backtrack_encoder.proofs.Running.{done, Running, running-start, running-step, running-end, codes-count}
 use Rattle.interval_count.specs.Steps.{MeetsReady, Meets, BetweenReady, PieceReady, PieceCounts}
 use Rattle.interval_count.proofs.Meeting.{met-count}
+use Rattle.tables.specs.Tables.{Tables}
 
-module _ (file places lefts rights prefixes area : List ℕ) (n : ℕ) (piece codes numbers ends depths : List ℕ) (from to : ℕ) (entry : List ℕ) where
+module _ (T : Tables) (n : ℕ) (piece codes numbers ends depths : List ℕ) (from to : ℕ) (entry : List ℕ) where
+  open Tables T using (file, places, area)
+
   -- what is known with so many steps left; `entry` is the work buffer at the start
   pub record Counting (left : ℕ) (e : BacktrackEncoder) (work dead : List ℕ) : Type 0 where
-    pub piece-ready : PieceReady file places lefts rights prefixes area n piece codes numbers ends depths from to entry
-    pub running : Running file places lefts rights prefixes area n piece entry left e work dead
+    pub piece-ready : PieceReady T n piece codes numbers ends depths from to entry
+    pub running : Running T n piece entry left e work dead
 
-  pub counting-start : (e : BacktrackEncoder) (dead : List ℕ) → PieceReady file places lefts rights prefixes area n piece codes numbers ends depths from to entry
+  pub counting-start : (e : BacktrackEncoder) (dead : List ℕ) → PieceReady T n piece codes numbers ends depths from to entry
       → Started file places area n piece e → isSet dead ≡ allSet → Counting (2 * length piece) e entry dead
-  counting-start e dead R S a = record { piece-ready = R; running = running-start file places lefts rights prefixes area n piece entry e dead (R .ready) S a }
+  counting-start e dead R S a = record { piece-ready = R; running = running-start T n piece entry e dead (R .ready) S a }
 
   module _ (left : ℕ) (e : BacktrackEncoder) (work dead : List ℕ) (C : Counting left e work dead) where
     pub counting-step : (r : BacktrackEncoder) (work' dead' : List ℕ) → 0 < left
-        → Stepped file places lefts rights prefixes area n piece e work dead r work' dead' → Counting (left - 1) r work' dead'
-    counting-step r work' dead' some K = record { piece-ready = C .piece-ready; running = running-step file places lefts rights prefixes area n piece entry left e work dead (C .running) r work' dead' some K }
+        → Stepped T n piece e work dead r work' dead' → Counting (left - 1) r work' dead'
+    counting-step r work' dead' some K = record { piece-ready = C .piece-ready; running = running-step T n piece entry left e work dead (C .running) r work' dead' some K }
 
     few : e .count ≤ e .pos
     few = count-pos file places n (C .piece-ready .ready .tables .places-ready) piece e work (C .running .ready)
@@ -67,7 +70,7 @@ module _ (file places lefts rights prefixes area : List ℕ) (n : ℕ) (piece co
 
     -- the prepared tables take over
     pub counting-met : Bytes piece → Meets e work codes numbers ends from to → (d : ℕ) → d ≡ getD depths to 0 - getD depths (from + e .pos) 0
-        → PieceCounts file places lefts rights prefixes area n piece codes numbers ends depths from to entry (e .count + d) work
+        → PieceCounts T n piece codes numbers ends depths from to entry (e .count + d) work
     counting-met b M d s = record {
       few = omega (arith, few, C .running .ready .inside);
       work-length = C .running .kept;
@@ -76,22 +79,22 @@ module _ (file places lefts rights prefixes area : List ℕ) (n : ℕ) (piece co
           let D = dictionaryOf file in
           ap (λ (k : ℕ). e .count + k) s
           ∙ met-count file n piece work e (C .running .ready) room
-          (run D piece (done file places lefts rights prefixes area n piece entry left) (start D piece))
-          (on-the-way file places lefts rights prefixes area n piece B b (done file places lefts rights prefixes area n piece entry left))
+          (run D piece (done T n piece entry left) (start D piece))
+          (on-the-way T n piece B b (done T n piece entry left))
           (C .running .shows B .stack)
-          text codes numbers ends depths from to (lawful-is file places lefts rights prefixes area n B) P few (C .piece-ready .size) fits is M;
+          text codes numbers ends depths from to (lawful-is T n B) P few (C .piece-ready .size) fits is M;
     }
 
     -- the piece is encoded to its end
-    pub counting-end : Bytes piece → (left ≡ 0) ⊎ (e .next ≡ none) → PieceCounts file places lefts rights prefixes area n piece codes numbers ends depths from to entry (e .count) work
+    pub counting-end : Bytes piece → (left ≡ 0) ⊎ (e .next ≡ none) → PieceCounts T n piece codes numbers ends depths from to entry (e .count) work
     unfolding intervalCount
     counting-end b o =
-        let K = running-end file places lefts rights prefixes area n piece entry left e work dead (C .running) b o in
+        let K = running-end T n piece entry left e work dead (C .running) b o in
         record {
           few = omega (arith, K .few);
           work-length = K .work-length;
           work-beyond = K .work-beyond;
           built = λ B text fits is P.
-              codes-count file places lefts rights prefixes area n piece entry (e .count) work (C .piece-ready .ready) K B
+              codes-count T n piece entry (e .count) work (C .piece-ready .ready) K B
               ∙ ap (λ (l : List ℕ). length (encode (dictionaryOf file) l)) is;
         }

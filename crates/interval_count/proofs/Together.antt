@@ -10,6 +10,7 @@ use borrow.Author.Tests.{ltb-false}
 use Rattle.causes.specs.declared.Cause.{Cause}
 use Rattle.causes.specs.declared.Cause.the-variants.{TooShort, OutOfForm, TooLong}
 use Rattle.phrase_file.specs.Form.{rows}
+use Rattle.tables.specs.Tables.{Tables}
 use Rattle.tables.specs.declared.Form.{Form}
 use Rattle.tables.specs.declared.Form.the-variants.{Rows, Out}
 use Rattle.tables.specs.declared.Answer.{Answer}
@@ -42,18 +43,18 @@ not-refused text codes numbers ends depths work form e = go (over text) (tooShor
     go false false Out s g e = absurd (let z : _≡_ {A = ℕ} 0 1 = cc in omega arith)
 
 -- after a preparation that was not refused, over the tables of one build, the count of an interval of the text is that of the merge procedure on the piece
-pub count-after-preparation : (file placeTable lefts rights prefixes area : List ℕ) (n : ℕ) → Built file placeTable lefts rights prefixes area n
+pub count-after-preparation : (T : Tables) (n : ℕ) → Built T n
     → (text codes numbers ends depths work codes' numbers' ends' depths' work' : List ℕ) (r : Answer)
-    → Prepares file placeTable lefts rights prefixes area text codes numbers ends depths work codes' numbers' ends' depths' work' r
-    → Prepare.refusal file placeTable lefts rights prefixes area text codes numbers ends depths work ≡ none
+    → Prepares T text codes numbers ends depths work codes' numbers' ends' depths' work' r
+    → Prepare.refusal T text codes numbers ends depths work ≡ none
     → (from to : ℕ) → from ≤ to → to ≤ length text → (buffer buffer' : List ℕ) → length text ≤ length buffer → (a : Answer)
-    → Counts file placeTable lefts rights prefixes area text codes' numbers' ends' depths' from to buffer buffer' a
-    → a ≡ Number (intervalCount (dictionaryOf file) text from to)
-count-after-preparation file placeTable lefts rights prefixes area n B text codes numbers ends depths work codes' numbers' ends' depths' work' r P e from to order inside buffer buffer' room a C =
-    let q = not-refused text codes numbers ends depths work (formOf file placeTable lefts rights prefixes area) e in
+    → Counts T text codes' numbers' ends' depths' from to buffer buffer' a
+    → a ≡ Number (intervalCount (dictionaryOf (T .file)) text from to)
+count-after-preparation T n B text codes numbers ends depths work codes' numbers' ends' depths' work' r P e from to order inside buffer buffer' room a C =
+    let q = not-refused text codes numbers ends depths work (formOf T) e in
     let m : ℕ = q .in-form .0 in
-    let k : m ≡ length (rows file) = ready file placeTable lefts rights prefixes area m (q .in-form .1) .places-ready .count in
+    let k : m ≡ length (rows (T .file)) = ready T m (q .in-form .1) .places-ready .count in
     let f : intervalInForm m text codes' numbers' ends' depths' ≡ true = rw k (P .filled e .in-form) in
-    let g : refusal file placeTable lefts rights prefixes area text codes' numbers' ends' depths' from to buffer ≡ none =
-    none-refused file placeTable lefts rights prefixes area text codes' numbers' ends' depths' from to buffer (q .short) room m (q .in-form .1) f order inside in
+    let g : refusal T text codes' numbers' ends' depths' from to buffer ≡ none =
+    none-refused T text codes' numbers' ends' depths' from to buffer (q .short) room m (q .in-form .1) f order inside in
     C .answer ∙ ap (λ (o : Option Cause). answered o (C .count)) g ∙ ap Number (C .built n B (P .built n B e) g)

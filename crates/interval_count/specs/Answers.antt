@@ -8,6 +8,7 @@ use lib.ListN.{length, drop}
 use lib.Dec.{ltb}
 use Rattle.causes.specs.declared.Cause.{Cause}
 use Rattle.causes.specs.declared.Cause.the-variants.{TooShort, OutOfForm, TooLong, BadInterval}
+use Rattle.tables.specs.Tables.{Tables}
 use Rattle.tables.specs.declared.Form.{Form}
 use Rattle.tables.specs.declared.Form.the-variants.{Rows, Out}
 use Rattle.tables.specs.declared.Answer.{Answer}
@@ -34,8 +35,8 @@ intervalRefusal form text lastCodes numbers ends depths from to work =
     when (over text) TooLong (when (shorter work text) TooShort (when (anyOut form text lastCodes numbers ends depths) OutOfForm (when (badInterval text from to) BadInterval none)))
 
 -- tables in form, a text of at most 4,096 bytes with a work buffer for it, interval tables in form and an interval of the text
-pub record CoreReady (file places lefts rights prefixes area : List ℕ) (n : ℕ) (text lastCodes numbers ends depths : List ℕ) (from to : ℕ) (work : List ℕ) : Type 0 where
-  pub ready : TextReady file places lefts rights prefixes area n text work
+pub record CoreReady (T : Tables) (n : ℕ) (text lastCodes numbers ends depths : List ℕ) (from to : ℕ) (work : List ℕ) : Type 0 where
+  pub ready : TextReady T n text work
   pub in-form : intervalInForm n text lastCodes numbers ends depths ≡ true
   pub ordered : from ≤ to
   pub inside : to ≤ length text
@@ -48,14 +49,16 @@ pub record Counted (text work : List ℕ) (r : ℕ) (work' : List ℕ) : Type 0 
   pub work-beyond : drop (length text) work' ≡ drop (length text) work
 
 -- the count of the interval, over tables that build left and the prepared tables of the text
-pub record CoreCounts (file places lefts rights prefixes area : List ℕ) (n : ℕ) (text lastCodes numbers ends depths : List ℕ) (from to : ℕ) (work : List ℕ) (r : ℕ) (work' : List ℕ) : Type 0 where
+pub record CoreCounts (T : Tables) (n : ℕ) (text lastCodes numbers ends depths : List ℕ) (from to : ℕ) (work : List ℕ) (r : ℕ) (work' : List ℕ) : Type 0 where
   pub counted : Counted text work r work'
-  pub built : Built file places lefts rights prefixes area n → Prepared file text lastCodes numbers ends depths → r ≡ intervalCount (dictionaryOf file) text from to
+  pub built : Built T n → Prepared (T .file) text lastCodes numbers ends depths → r ≡ intervalCount (dictionaryOf (T .file)) text from to
 
-module _ (file placeTable lefts rights prefixes area text lastCodes numbers ends depths : List ℕ) (from to : ℕ) (work : List ℕ) where
+module _ (T : Tables) (text lastCodes numbers ends depths : List ℕ) (from to : ℕ) (work : List ℕ) where
+  open Tables T using (file)
+
   -- the refusal of a call
   abbrev pub refusal : Option Cause
-  refusal = intervalRefusal (formOf file placeTable lefts rights prefixes area) text lastCodes numbers ends depths from to work
+  refusal = intervalRefusal (formOf T) text lastCodes numbers ends depths from to work
 
   -- `IntervalEncoding::count`: a refusal (9, 7, 8, 11) leaves the work buffer as it was; else the answer is a number, and over tables that build left
   -- and the prepared tables of the text it is the count of the piece, the byte at the end not included. Which number it is elsewhere is free
@@ -64,5 +67,5 @@ module _ (file placeTable lefts rights prefixes area text lastCodes numbers ends
     pub answer : r ≡ answered refusal count
     pub refused : (cause : Cause) → refusal ≡ some cause → work' ≡ work
     pub counted : refusal ≡ none → Counted text work count work'
-    pub built : (n : ℕ) → Built file placeTable lefts rights prefixes area n → Prepared file text lastCodes numbers ends depths → refusal ≡ none
+    pub built : (n : ℕ) → Built T n → Prepared file text lastCodes numbers ends depths → refusal ≡ none
         → count ≡ intervalCount (dictionaryOf file) text from to

@@ -9,6 +9,7 @@ use Rattle.built.specs.Built.{dictionaryOf, Built}
 use Rattle.backtrack_encoder.specs.declared.BacktrackEncoder.{BacktrackEncoder}
 use Rattle.backtrack_encoder.specs.Encoder.{TextReady}
 use Rattle.interval_prepare.specs.Tables.{Prepared}
+use Rattle.tables.specs.Tables.{Tables}
 
 -- the encoder has no more codes than bytes, and its place in the text, behind `from`, is no further than `to`
 pub record MeetsReady (e : BacktrackEncoder) (work lastCodes numbers ends : List ℕ) (from to : ℕ) : Type 0 where
@@ -36,8 +37,8 @@ pub record BetweenReady (depths : List ℕ) (place to : ℕ) : Type 0 where
   pub to-room : to < length depths
 
 -- tables in form, a piece from `from` to `to` of at most 4,096 bytes, a work buffer with one number per byte, and interval tables with entries up to `to`
-pub record PieceReady (file places lefts rights prefixes area : List ℕ) (n : ℕ) (piece lastCodes numbers ends depths : List ℕ) (from to : ℕ) (work : List ℕ) : Type 0 where
-  pub ready : TextReady file places lefts rights prefixes area n piece work
+pub record PieceReady (T : Tables) (n : ℕ) (piece lastCodes numbers ends depths : List ℕ) (from to : ℕ) (work : List ℕ) : Type 0 where
+  pub ready : TextReady T n piece work
   pub size : from + length piece ≡ to
   pub short : to ≤ 4096
   pub codes-room : to ≤ length lastCodes
@@ -48,9 +49,9 @@ pub record PieceReady (file places lefts rights prefixes area : List ℕ) (n : �
 
 -- the number of codes of the piece, if a build left the tables and the interval tables are the prepared ones of a text that has this piece; else no more
 -- than its bytes and the depth at `to`. The work buffer is written no further than the piece is long; its first numbers are free
-pub record PieceCounts (file places lefts rights prefixes area : List ℕ) (n : ℕ) (piece lastCodes numbers ends depths : List ℕ) (from to : ℕ) (work : List ℕ) (r : ℕ) (work' : List ℕ) : Type 0 where
+pub record PieceCounts (T : Tables) (n : ℕ) (piece lastCodes numbers ends depths : List ℕ) (from to : ℕ) (work : List ℕ) (r : ℕ) (work' : List ℕ) : Type 0 where
   pub few : r ≤ length piece + getD depths to 0
   pub work-length : length work' ≡ length work
   pub work-beyond : drop (length piece) work' ≡ drop (length piece) work
-  pub built : Built file places lefts rights prefixes area n → (text : List ℕ) → to ≤ length text → piece ≡ take (to - from) (drop from text)
-      → Prepared file text lastCodes numbers ends depths → r ≡ intervalCount (dictionaryOf file) text from to
+  pub built : Built T n → (text : List ℕ) → to ≤ length text → piece ≡ take (to - from) (drop from text)
+      → Prepared (T .file) text lastCodes numbers ends depths → r ≡ intervalCount (dictionaryOf (T .file)) text from to

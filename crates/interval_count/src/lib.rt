@@ -5,6 +5,7 @@ ghost use lib.ListN.{length, getD};
 ghost use Rattle.interval_prepare.specs.Tables.{codesInForm, treeInForm, intervalInForm};
 ghost use Rattle.interval_count.specs.Steps.{MeetsReady, MeetsIs, BetweenReady, PieceReady, PieceCounts};
 ghost use Rattle.interval_count.specs.Answers.{CoreReady, CoreCounts, Counts};
+ghost use Rattle.tables.specs.Tables.{given, lent, before, after};
 use backtrack_encoder::BacktrackEncoder;
 use backtrack_encoder::step;
 use bitfield::all_set;
@@ -58,7 +59,8 @@ fn interval_in_form(
     ends: &[u32],
     depths: &[u32],
 ) -> bool
-    ensures { λ r. ⌜ r ≡ intervalInForm n (now (text .entry)) (now («last_codes» .entry)) (now (numbers .entry)) (now (ends .entry)) (now (depths .entry)) ⌝ }
+    ensures { λ r. ⌜ r ≡ intervalInForm n (now (text .entry)) (now («last_codes» .entry)) (now (numbers .entry))
+        (now (ends .entry)) (now (depths .entry)) ⌝ }
 {
     if !codes_in_form(n, text, last_codes) {
         return false;
@@ -84,7 +86,8 @@ fn meets(
     to: usize,
 ) -> bool
     requires { ⌜ MeetsReady encoder (now work) (now «last_codes») (now numbers) (now ends) from to ⌝ }
-    ensures { λ r. ⌜ MeetsIs encoder (now (work .entry)) (now («last_codes» .entry)) (now (numbers .entry)) (now (ends .entry)) from to r ⌝ }
+    ensures { λ r. ⌜ MeetsIs encoder (now (work .entry)) (now («last_codes» .entry)) (now (numbers .entry))
+        (now (ends .entry)) from to r ⌝ }
 {
     if encoder.count == 0 {
         return false;
@@ -129,8 +132,11 @@ fn count_piece(
     to: usize,
     work: &mut [u32],
 ) -> usize
-    requires { ⌜ PieceReady (now file) (now places) (now lefts) (now rights) (now prefixes) (now area) n (now piece) (now «last_codes») (now numbers) (now ends) (now depths) from to (now work) ⌝ }
-    ensures { λ r. ⌜ PieceCounts (now (file .entry)) (now (places .entry)) (now (lefts .entry)) (now (rights .entry)) (now (prefixes .entry)) (now (area .entry)) n (now (piece .entry)) (now («last_codes» .entry)) (now (numbers .entry)) (now (ends .entry)) (now (depths .entry)) from to (now (work .entry)) r (now (work .exit)) ⌝ }
+    requires { ⌜ PieceReady (given file places lefts rights prefixes area)
+        n (now piece) (now «last_codes») (now numbers) (now ends) (now depths) from to (now work) ⌝ }
+    ensures { λ r. ⌜ PieceCounts (lent file places lefts rights prefixes area)
+        n (before piece) (before «last_codes») (before numbers) (before ends) (before depths) from to (before work)
+        r (after work) ⌝ }
 {
     let mut dead = all_set();
     let mut encoder = backtrack_encoder::start(file, places, area, n, piece);
@@ -178,8 +184,11 @@ pub fn count_core(
     end: usize,
     work: &mut [u32],
 ) -> usize
-    requires { ⌜ CoreReady (now file) (now places) (now lefts) (now rights) (now prefixes) (now area) n (now text) (now «last_codes») (now numbers) (now ends) (now depths) start end (now work) ⌝ }
-    ensures { λ r. ⌜ CoreCounts (now (file .entry)) (now (places .entry)) (now (lefts .entry)) (now (rights .entry)) (now (prefixes .entry)) (now (area .entry)) n (now (text .entry)) (now («last_codes» .entry)) (now (numbers .entry)) (now (ends .entry)) (now (depths .entry)) start end (now (work .entry)) r (now (work .exit)) ⌝ }
+    requires { ⌜ CoreReady (given file places lefts rights prefixes area)
+        n (now text) (now «last_codes») (now numbers) (now ends) (now depths) start end (now work) ⌝ }
+    ensures { λ r. ⌜ CoreCounts (lent file places lefts rights prefixes area)
+        n (before text) (before «last_codes») (before numbers) (before ends) (before depths) start end (before work)
+        r (after work) ⌝ }
 {
     count_piece(
         file,
@@ -217,7 +226,9 @@ pub fn count(
     end: usize,
     work: &mut [u32],
 ) -> Answer
-    ensures { λ r. ⌜ Counts (now (file .entry)) (now (places .entry)) (now (lefts .entry)) (now (rights .entry)) (now (prefixes .entry)) (now (area .entry)) (now (text .entry)) (now («last_codes» .entry)) (now (numbers .entry)) (now (ends .entry)) (now (depths .entry)) start end (now (work .entry)) (now (work .exit)) r ⌝ }
+    ensures { λ r. ⌜ Counts (lent file places lefts rights prefixes area)
+        (before text) (before «last_codes») (before numbers) (before ends) (before depths) start end (before work)
+        (after work) r ⌝ }
 {
     if 4096 < text.len() {
         return Answer::Refused(Cause::TooLong);

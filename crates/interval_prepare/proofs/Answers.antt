@@ -13,6 +13,7 @@ use Rattle.causes.specs.declared.Cause.{Cause}
 use Rattle.causes.specs.declared.Cause.the-variants.{TooShort, OutOfForm, TooLong}
 use Rattle.phrase_file.specs.Form.{rows}
 use Rattle.phrase_file.proofs.Checks.{accepted}
+use Rattle.tables.specs.Tables.{Tables}
 use Rattle.tables.specs.declared.Form.{Form}
 use Rattle.tables.specs.declared.Form.the-variants.{Rows, Out}
 use Rattle.tables.specs.declared.Answer.the-variants.{Number, Refused}
@@ -91,12 +92,14 @@ long-enough text lastCodes numbers ends depths work e =
       depths-room = omega (arith, ltb-false (length depths) (length text + 1) (d .1));
     }
 
-module _ (file placeTable lefts rights prefixes area text lastCodes numbers ends depths work : List ℕ) where
+module _ (T : Tables) (text lastCodes numbers ends depths work : List ℕ) where
+  open Tables T using (file, places as placeTable, lefts, rights, prefixes, area)
+
   abbrev form : Form
-  form = formOf file placeTable lefts rights prefixes area
+  form = formOf T
 
   refused : (cause : Cause) → prepareRefusal text lastCodes numbers ends depths work form ≡ some cause
-      → Prepares file placeTable lefts rights prefixes area text lastCodes numbers ends depths work lastCodes numbers ends depths work (Refused cause)
+      → Prepares T text lastCodes numbers ends depths work lastCodes numbers ends depths work (Refused cause)
   refused cause e = record {
     answer = rw e;
     refused = λ _ _. record { last-codes = refl; numbers-same = refl; ends-same = refl; depths-same = refl; work-same = refl };
@@ -105,29 +108,29 @@ module _ (file placeTable lefts rights prefixes area text lastCodes numbers ends
   }
 
   pub refused-long : 4096 < length text
-      → Prepares file placeTable lefts rights prefixes area text lastCodes numbers ends depths work lastCodes numbers ends depths work (Refused TooLong)
+      → Prepares T text lastCodes numbers ends depths work lastCodes numbers ends depths work (Refused TooLong)
   unfolding prepareRefusal
   refused-long h = refused TooLong (rw (lt-ltb 4096 (length text) h))
 
   module _ (short : length text ≤ 4096) where
     pub refused-short : tooShort text lastCodes numbers ends depths work ≡ true
-        → Prepares file placeTable lefts rights prefixes area text lastCodes numbers ends depths work lastCodes numbers ends depths work (Refused TooShort)
+        → Prepares T text lastCodes numbers ends depths work lastCodes numbers ends depths work (Refused TooShort)
     unfolding prepareRefusal
     refused-short e = refused TooShort (rw (le-ltb 4096 (length text) short, e))
 
     module _ (room : tooShort text lastCodes numbers ends depths work ≡ false) where
       pub refused-out : form ≡ Out
-          → Prepares file placeTable lefts rights prefixes area text lastCodes numbers ends depths work lastCodes numbers ends depths work (Refused OutOfForm)
+          → Prepares T text lastCodes numbers ends depths work lastCodes numbers ends depths work (Refused OutOfForm)
       unfolding prepareRefusal
       refused-out e = refused OutOfForm (rw (le-ltb 4096 (length text) short, room, e))
 
       module _ (n : ℕ) (e : form ≡ Rows n) where
         pub core-ready : CoreReady file placeTable lefts rights area n text lastCodes numbers ends depths work
         core-ready =
-            let T = ready file placeTable lefts rights prefixes area n e in
+            let K = ready T n e in
             let r = long-enough text lastCodes numbers ends depths work room in
             record {
-              in-form = record { places-ready = T .places-ready; parts-ready = T .parts-ready; area-room = T .area-room };
+              in-form = record { places-ready = K .places-ready; parts-ready = K .parts-ready; area-room = K .area-room };
               short = short;
               codes-room = r .codes-room;
               numbers-room = r .numbers-room;
@@ -142,9 +145,9 @@ module _ (file placeTable lefts rights prefixes area text lastCodes numbers ends
 
         pub prepared : (lastCodes' numbers' ends' depths' work' : List ℕ)
             → CorePrepares file placeTable lefts rights area n text lastCodes numbers ends depths work lastCodes' numbers' ends' depths' work'
-            → Prepares file placeTable lefts rights prefixes area text lastCodes numbers ends depths work lastCodes' numbers' ends' depths' work' (Number (length text))
+            → Prepares T text lastCodes numbers ends depths work lastCodes' numbers' ends' depths' work' (Number (length text))
         prepared lastCodes' numbers' ends' depths' work' C =
-            let rows-are : n ≡ length (rows file) = ready file placeTable lefts rights prefixes area n e .places-ready .count in
+            let rows-are : n ≡ length (rows file) = ready T n e .places-ready .count in
             record {
               answer = rw none-refused;
               refused = λ cause f. absurd (let g = none-refused in let z : _≡_ {A = ℕ} 0 1 = cc in omega arith);

@@ -13,6 +13,7 @@ use Rattle.theory.proofs.PairCheck.{Lawful}
 use Rattle.theory.proofs.Table.{length-lastCodes, getD-lastCodes}
 use Rattle.theory.proofs.Tree.{tree-ind, number-le, end-le}
 use Rattle.theory.proofs.Interval.{treeNumber-is, treeEnd-is, depth-root, depth-child}
+use Rattle.tables.specs.Tables.{tables}
 use Rattle.tables.proofs.Sweeps.{each-all}
 use Rattle.built.specs.Built.{dictionaryOf, Built}
 use Rattle.built.proofs.Rows.{lawful-is}
@@ -76,9 +77,9 @@ module _ (file places lefts rights area : List ℕ) (n : ℕ) (text codes number
               (λ p h. omega (arith, depth-bound (parentIn file codes') (length text) low depths' (T .depth-root) (T .depth-child) p h)),
         )
 
-        module _ (prefixes : List ℕ) (B : Built file places lefts rights prefixes area n) where
+        module _ (prefixes : List ℕ) (B : Built (tables file places lefts rights prefixes area) n) where
           L : Lawful (dictionaryOf file)
-          L = lawful-is file places lefts rights prefixes area n B
+          L = lawful-is (tables file places lefts rights prefixes area) n B
 
           true-codes : (i : ℕ) → i < length text → getD codes' i 0 ≡ lastCode (dictionaryOf file) (take (suc i) text)
           true-codes i h =

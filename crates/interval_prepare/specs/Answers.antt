@@ -9,6 +9,7 @@ use lib.Dec.{ltb}
 use Rattle.causes.specs.declared.Cause.{Cause}
 use Rattle.causes.specs.declared.Cause.the-variants.{TooShort, OutOfForm, TooLong}
 use Rattle.phrase_file.specs.Form.{rows}
+use Rattle.tables.specs.Tables.{Tables, tables}
 use Rattle.tables.specs.declared.Form.{Form}
 use Rattle.tables.specs.declared.Answer.{Answer}
 use Rattle.tables.specs.InForm.{formOf}
@@ -67,12 +68,14 @@ pub record CoreReady (file places lefts rights area : List ℕ) (n : ℕ) (text 
 -- the tables filled; over tables that build left they are the prepared ones of the text
 pub record CorePrepares (file places lefts rights area : List ℕ) (n : ℕ) (text lastCodes numbers ends depths work lastCodes' numbers' ends' depths' work' : List ℕ) : Type 0 where
   pub filled : Filled lastCodes numbers ends depths work lastCodes' numbers' ends' depths' work' text n
-  pub built : (prefixes : List ℕ) → Built file places lefts rights prefixes area n → Prepared file text lastCodes' numbers' ends' depths'
+  pub built : (prefixes : List ℕ) → Built (tables file places lefts rights prefixes area) n → Prepared file text lastCodes' numbers' ends' depths'
 
-module _ (file placeTable lefts rights prefixes area text lastCodes numbers ends depths work : List ℕ) where
+module _ (T : Tables) (text lastCodes numbers ends depths work : List ℕ) where
+  open Tables T using (file)
+
   -- the refusal of a call
   abbrev pub refusal : Option Cause
-  refusal = prepareRefusal text lastCodes numbers ends depths work (formOf file placeTable lefts rights prefixes area)
+  refusal = prepareRefusal text lastCodes numbers ends depths work (formOf T)
 
   -- `IntervalEncoding::new`: a refusal (9, 7, 8) leaves all buffers as they were; else the answer is the number of prefixes filled, the text's length,
   -- and over tables that build left the interval tables are the prepared ones of the text
@@ -80,4 +83,4 @@ module _ (file placeTable lefts rights prefixes area text lastCodes numbers ends
     pub answer : r ≡ answered refusal (length text)
     pub refused : (cause : Cause) → refusal ≡ some cause → Unchanged lastCodes numbers ends depths work lastCodes' numbers' ends' depths' work'
     pub filled : refusal ≡ none → Filled lastCodes numbers ends depths work lastCodes' numbers' ends' depths' work' text (length (rows file))
-    pub built : (n : ℕ) → Built file placeTable lefts rights prefixes area n → refusal ≡ none → Prepared file text lastCodes' numbers' ends' depths'
+    pub built : (n : ℕ) → Built T n → refusal ≡ none → Prepared file text lastCodes' numbers' ends' depths'

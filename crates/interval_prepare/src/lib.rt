@@ -2,6 +2,7 @@
 ghost use mathlib.Core.Path.{_≡_};
 ghost use Rattle.interval_prepare.specs.Steps.{parentIn, ParentReady, OnesReady, Ones, AddReady, added, SizesReady, SizesAre, ChildReady, ChildPlaced, TreeReady, TreeIs};
 ghost use Rattle.interval_prepare.specs.Answers.{tooShort, CoreReady, CorePrepares, Prepares};
+ghost use Rattle.tables.specs.Tables.{lent, before, after};
 use causes::Cause;
 use placed_rows::length_of;
 use placed_rows::wide;
@@ -47,7 +48,8 @@ fn add_size(i: usize, parent: usize, work: &mut [u32])
 // The size of each prefix but the empty one: how many are that prefix or below it. Entry i - 1 is that of prefix i.
 fn fill_sizes(file: &[u8], places: &[u32], n: usize, m: usize, last_codes: &[u32], work: &mut [u32])
     requires { ⌜ SizesReady (now file) (now places) n m (now «last_codes») (now work) ⌝ }
-    ensures { λ _. ⌜ SizesAre (now (file .entry)) m (now («last_codes» .entry)) (now (work .entry)) (now (work .exit)) ⌝ }
+    ensures { λ _. ⌜ SizesAre (now (file .entry)) m (now («last_codes» .entry)) (now (work .entry))
+        (now (work .exit)) ⌝ }
 {
     fill_ones(m, work);
     let mut i = m;
@@ -68,7 +70,8 @@ fn place_child(
     depths: &mut [u32],
 )
     requires { ⌜ ChildReady i parent size (now numbers) (now ends) (now depths) ⌝ }
-    ensures { λ _. ⌜ ChildPlaced i parent size (now (numbers .entry)) (now (ends .entry)) (now (depths .entry)) (now (numbers .exit)) (now (ends .exit)) (now (depths .exit)) ⌝ }
+    ensures { λ _. ⌜ ChildPlaced i parent size (now (numbers .entry)) (now (ends .entry)) (now (depths .entry))
+        (now (numbers .exit)) (now (ends .exit)) (now (depths .exit)) ⌝ }
 {
     let number = ends[parent];
     numbers[i] = number;
@@ -89,8 +92,10 @@ fn fill_tree(
     ends: &mut [u32],
     depths: &mut [u32],
 )
-    requires { ⌜ TreeReady (now file) (now places) n m (now «last_codes») (now work) (now numbers) (now ends) (now depths) ⌝ }
-    ensures { λ _. ⌜ TreeIs (now (file .entry)) m (now («last_codes» .entry)) (now (numbers .entry)) (now (ends .entry)) (now (depths .entry)) (now (numbers .exit)) (now (ends .exit)) (now (depths .exit)) ⌝ }
+    requires { ⌜ TreeReady (now file) (now places) n m (now «last_codes») (now work) (now numbers) (now ends)
+        (now depths) ⌝ }
+    ensures { λ _. ⌜ TreeIs (now (file .entry)) m (now («last_codes» .entry)) (now (numbers .entry))
+        (now (ends .entry)) (now (depths .entry)) (now (numbers .exit)) (now (ends .exit)) (now (depths .exit)) ⌝ }
 {
     numbers[0] = 0;
     ends[0] = 1;
@@ -118,8 +123,12 @@ pub fn prepare_core(
     depths: &mut [u32],
     work: &mut [u32],
 )
-    requires { ⌜ CoreReady (now file) (now places) (now lefts) (now rights) (now area) n (now text) (now «last_codes») (now numbers) (now ends) (now depths) (now work) ⌝ }
-    ensures { λ _. ⌜ CorePrepares (now (file .entry)) (now (places .entry)) (now (lefts .entry)) (now (rights .entry)) (now (area .entry)) n (now (text .entry)) (now («last_codes» .entry)) (now (numbers .entry)) (now (ends .entry)) (now (depths .entry)) (now (work .entry)) (now («last_codes» .exit)) (now (numbers .exit)) (now (ends .exit)) (now (depths .exit)) (now (work .exit)) ⌝ }
+    requires { ⌜ CoreReady (now file) (now places) (now lefts) (now rights) (now area) n (now text)
+        (now «last_codes») (now numbers) (now ends) (now depths) (now work) ⌝ }
+    ensures { λ _. ⌜ CorePrepares (now (file .entry)) (now (places .entry)) (now (lefts .entry))
+        (now (rights .entry)) (now (area .entry)) n (now (text .entry)) (now («last_codes» .entry))
+        (now (numbers .entry)) (now (ends .entry)) (now (depths .entry)) (now (work .entry))
+        (now («last_codes» .exit)) (now (numbers .exit)) (now (ends .exit)) (now (depths .exit)) (now (work .exit)) ⌝ }
 {
     let m = text.len();
     encode_all_prefixes(file, places, lefts, rights, area, n, text, last_codes);
@@ -136,7 +145,8 @@ fn is_too_short(
     depths: &[u32],
     work: &[u32],
 ) -> bool
-    ensures { λ r. ⌜ r ≡ tooShort (now (text .entry)) (now («last_codes» .entry)) (now (numbers .entry)) (now (ends .entry)) (now (depths .entry)) (now (work .entry)) ⌝ }
+    ensures { λ r. ⌜ r ≡ tooShort (now (text .entry)) (now («last_codes» .entry)) (now (numbers .entry))
+        (now (ends .entry)) (now (depths .entry)) (now (work .entry)) ⌝ }
 {
     if last_codes.len() < text.len() {
         return true;
@@ -168,7 +178,9 @@ pub fn prepare(
     depths: &mut [u32],
     work: &mut [u32],
 ) -> Answer
-    ensures { λ r. ⌜ Prepares (now (file .entry)) (now (places .entry)) (now (lefts .entry)) (now (rights .entry)) (now (prefixes .entry)) (now (area .entry)) (now (text .entry)) (now («last_codes» .entry)) (now (numbers .entry)) (now (ends .entry)) (now (depths .entry)) (now (work .entry)) (now («last_codes» .exit)) (now (numbers .exit)) (now (ends .exit)) (now (depths .exit)) (now (work .exit)) r ⌝ }
+    ensures { λ r. ⌜ Prepares (lent file places lefts rights prefixes area)
+        (before text) (before «last_codes») (before numbers) (before ends) (before depths) (before work)
+        (after «last_codes») (after numbers) (after ends) (after depths) (after work) r ⌝ }
 {
     if 4096 < text.len() {
         return Answer::Refused(Cause::TooLong);

@@ -6,6 +6,7 @@ use Prim.Native.Nat.{ℕ}
 use Rattle.placed_rows.specs.Rows.{row}
 use Rattle.search_area.specs.Answers.{Found}
 use Rattle.token_pair.specs.Pair.{PairIs}
+use Rattle.tables.specs.Tables.{Tables}
 use Rattle.tables.specs.declared.Answer.{Answer}
 use Rattle.answers.specs.Answers.{answerOf}
 use Rattle.typing_core.specs.Sides.{sideOf}
@@ -25,9 +26,9 @@ pub numbered : {file places lefts rights area : List ℕ} {n u v : ℕ} (check b
 numbered check b e P = record { check = b; checked = rw e at P; is = refl }
 
 -- the bytes typed on the side that the caller's number names
-pub typed-on : {file places lefts rights prefixes area : List ℕ} {side named : Side} {len size : ℕ} {bytes codes counts typed : List ℕ} {a : Answer}
+pub typed-on : {T : Tables} {side named : Side} {len size : ℕ} {bytes codes counts typed : List ℕ} {a : Answer}
     {bytes' codes' counts' : List ℕ} {r : ℕ} → side ≡ named
-    → ExtendedColumns file places lefts rights prefixes area (sideOf side) len size bytes codes counts typed a bytes' codes' counts'
+    → ExtendedColumns T (sideOf side) len size bytes codes counts typed a bytes' codes' counts'
     → r ≡ answerOf a .place
-    → Answers (λ (x : Answer). ExtendedColumns file places lefts rights prefixes area (sideOf named) len size bytes codes counts typed x bytes' codes' counts') r
+    → Answers (λ (x : Answer). ExtendedColumns T (sideOf named) len size bytes codes counts typed x bytes' codes' counts') r
 typed-on {a = a} e met is = record { answer = a; met = rw e at met; is = is }

@@ -5,6 +5,7 @@ use mathlib.Core.Bool.{true}
 use Prim.Native.Nat.{ℕ, _+_, _*_, _≤_, _<_}
 use lib.ListN.{length, getD}
 use Rattle.theory.specs.Tree.{intervalCount}
+use Rattle.tables.specs.Tables.{Tables}
 use Rattle.tables.specs.declared.Answer.{Answer}
 use Rattle.answers.specs.Answers.{answerOf}
 use Rattle.built.specs.Built.{dictionaryOf, Built}
@@ -18,10 +19,12 @@ pub record Answers (meets : Answer → Type 0) (r : ℕ) : Type 0 where
   pub met : meets answer
   pub is : r ≡ answerOf answer .place
 
-module _ (file places lefts rights prefixes area : List ℕ) (n : ℕ) (text lastCodes numbers ends depths : List ℕ) where
+module _ (T : Tables) (n : ℕ) (text lastCodes numbers ends depths : List ℕ) where
+  open Tables T using (file)
+
   -- tables in form, a text with a work buffer for it, interval tables in form, at most 4,096 pieces of the text, and an output that has one number per piece
   pub record PiecesReady (froms tos work out : List ℕ) : Type 0 where
-    pub ready : TextReady file places lefts rights prefixes area n text work
+    pub ready : TextReady T n text work
     pub in-form : intervalInForm n text lastCodes numbers ends depths ≡ true
     pub ordered : (i : ℕ) → i < length froms → getD froms i 0 ≤ getD tos i 0
     pub inside : (i : ℕ) → i < length froms → getD tos i 0 ≤ length text
@@ -32,7 +35,7 @@ module _ (file places lefts rights prefixes area : List ℕ) (n : ℕ) (text las
   -- the count of a piece, over tables that build left and the prepared tables of the text; elsewhere a bounded number
   pub record PieceNumber (from to r : ℕ) : Type 0 where
     pub few : r ≤ 2 * length text + 1
-    pub built : Built file places lefts rights prefixes area n → Prepared file text lastCodes numbers ends depths → r ≡ intervalCount (dictionaryOf file) text from to
+    pub built : Built T n → Prepared file text lastCodes numbers ends depths → r ≡ intervalCount (dictionaryOf file) text from to
 
   -- the same, and the work buffer keeps its size
   pub record PieceCounted (from to : ℕ) (work : List ℕ) (r : ℕ) (work' : List ℕ) : Type 0 where

@@ -1,6 +1,7 @@
 // Counts of pieces of a prepared text, over tables in form.
 ghost use Rattle.interval_count.specs.Answers.{CoreReady};
 ghost use Rattle.measured.specs.Core.{PiecesReady, PieceCounted, Pieces};
+ghost use Rattle.tables.specs.Tables.{given, lent, before, after};
 use placed_rows::wide;
 
 // The count of one piece, as a number of 32 bits.
@@ -21,8 +22,11 @@ fn piece_number(
     to: usize,
     work: &mut [u32],
 ) -> u32
-    requires { ⌜ CoreReady (now file) (now places) (now lefts) (now rights) (now prefixes) (now area) n (now text) (now «last_codes») (now numbers) (now ends) (now depths) from to (now work) ⌝ }
-    ensures { λ r. ⌜ PieceCounted (now (file .entry)) (now (places .entry)) (now (lefts .entry)) (now (rights .entry)) (now (prefixes .entry)) (now (area .entry)) n (now (text .entry)) (now («last_codes» .entry)) (now (numbers .entry)) (now (ends .entry)) (now (depths .entry)) from to (now (work .entry)) r (now (work .exit)) ⌝ }
+    requires { ⌜ CoreReady (given file places lefts rights prefixes area)
+        n (now text) (now «last_codes») (now numbers) (now ends) (now depths) from to (now work) ⌝ }
+    ensures { λ r. ⌜ PieceCounted (lent file places lefts rights prefixes area)
+        n (before text) (before «last_codes») (before numbers) (before ends) (before depths) from to (before work) r
+        (after work) ⌝ }
 {
     let count = interval_count::count_core(
         file,
@@ -64,8 +68,12 @@ pub extern "C" fn measured_pieces(
     work: &mut [u32],
     out: &mut [u32],
 )
-    requires { ⌜ PiecesReady (now file) (now places) (now lefts) (now rights) (now prefixes) (now area) n (now text) (now «last_codes») (now numbers) (now ends) (now depths) (now froms) (now tos) (now work) (now out) ⌝ }
-    ensures { λ r. ⌜ Pieces (now (file .entry)) (now (places .entry)) (now (lefts .entry)) (now (rights .entry)) (now (prefixes .entry)) (now (area .entry)) n (now (text .entry)) (now («last_codes» .entry)) (now (numbers .entry)) (now (ends .entry)) (now (depths .entry)) (now (froms .entry)) (now (tos .entry)) (now (out .entry)) (now (out .exit)) ⌝ }
+    requires { ⌜ PiecesReady (given file places lefts rights prefixes area)
+        n (now text) (now «last_codes») (now numbers) (now ends) (now depths) (now froms) (now tos) (now work)
+        (now out) ⌝ }
+    ensures { λ r. ⌜ Pieces (lent file places lefts rights prefixes area)
+        n (before text) (before «last_codes») (before numbers) (before ends) (before depths) (before froms)
+        (before tos) (before out) (after out) ⌝ }
 {
     let mut i = 0;
     while i < froms.len() {

@@ -1,4 +1,5 @@
 // Typing from length 0 over lent columns: what push does for each byte, after one check of the tables.
+ghost use Rattle.tables.specs.Tables.{lent, before, after};
 ghost use Rattle.tables.specs.declared.Answer.{Answer};
 ghost use Rattle.typing_core.specs.Sides.{sideOf, sideNumbered};
 ghost use Rattle.typing_core.specs.Columns.{ExtendedColumns};
@@ -20,12 +21,9 @@ pub extern "C" fn measured_extend(
     codes: &mut [u32; 4096],
     counts: &mut [u32; 4096],
 ) -> u64
-    ensures { λ r. ⌜ Answers (λ (a : Answer). ExtendedColumns
-        (now (file .entry)) (now (places .entry)) (now (lefts .entry))
-        (now (rights .entry)) (now (prefixes .entry)) (now (area .entry))
-        (sideOf (sideNumbered side)) 0 4096 (now (bytes .entry)) (now (codes .entry)) (now (counts .entry))
-        (now (typed .entry)) a
-        (now (bytes .exit)) (now (codes .exit)) (now (counts .exit))) r ⌝ }
+    ensures { λ r. ⌜ Answers (λ (a : Answer). ExtendedColumns (lent file places lefts rights prefixes area)
+        (sideOf (sideNumbered side)) 0 4096 (before bytes) (before codes) (before counts) (before typed) a
+        (after bytes) (after codes) (after counts)) r ⌝ }
 {
     let answer = typing_core::extend_columns(
         side_numbered(side),

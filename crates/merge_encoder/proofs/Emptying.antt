@@ -17,10 +17,11 @@ use Rattle.merge_encoder.specs.Encoding.{JoinsReady, WhenBuilt}
 use Rattle.merge_encoder.specs.Live.{kept, live}
 use Rattle.merge_encoder.specs.Steps.{JoinKey, KeyIs, Keyed, State, Waiting, During, Ran, RowJoined}
 use Rattle.merge_encoder.proofs.Queueing.{queued-cases, queued-none}
+use Rattle.tables.specs.Tables.{tables}
 
 -- codes none of whose keys is row: the pass of row leaves them as they are
 module _ (file places lefts rights area : List ℕ) (n len : ℕ) (words work keys : List ℕ) (K : Keyed file places lefts rights area n len words work keys) (row : ℕ) (below : row < n)
-    (other : (i : ℕ) → i < 4096 → getD keys i 0 ≡ row → ⊥) (prefixes : List ℕ) (B : Built file places lefts rights prefixes area n) where
+    (other : (i : ℕ) → i < 4096 → getD keys i 0 ≡ row → ⊥) (prefixes : List ℕ) (B : Built (tables file places lefts rights prefixes area) n) where
   abbrev D : Dictionary
   D = dictionaryOf file
 

@@ -26,6 +26,7 @@ use Rattle.merge_encoder.proofs.Living.{live-none}
 use Rattle.merge_encoder.proofs.Turning.{parted, next-some, next-none, joined, next-after, next-last, keys-after}
 use Rattle.merge_encoder.proofs.Queueing.{longer-trans}
 use Rattle.merge_encoder.proofs.Passing.{pass-joined}
+use Rattle.tables.specs.Tables.{tables}
 
 -- the codes before a place, up to the last live one
 module _ (bits : ℕ → Bool) (work : List ℕ) (at last : ℕ) (L : LastLive bits at last) where
@@ -53,7 +54,7 @@ module _ (file places lefts rights area : List ℕ) (n : ℕ) where
       (lt-or-ge next len)
 
   -- a row is above its parts
-  module _ (few : n ≤ 4096) (x y k : ℕ) (hx : x < n) (hy : y < n) (J : JoinKey file places lefts rights area n x y k) (prefixes : List ℕ) (B : Built file places lefts rights prefixes area n) where
+  module _ (few : n ≤ 4096) (x y k : ℕ) (hx : x < n) (hy : y < n) (J : JoinKey file places lefts rights area n x y k) (prefixes : List ℕ) (B : Built (tables file places lefts rights prefixes area) n) where
     above-left : x < k
     above-left = go (ℕ-discrete k none)
       where
@@ -61,7 +62,7 @@ module _ (file places lefts rights area : List ℕ) (n : ℕ) where
         go (yes e) = omega (arith, few)
         go (no s) =
             let h = listed-is (dictionaryOf file) k x y (J .built prefixes B .is s) in
-            omega (arith, h .left, lawful-is file places lefts rights prefixes area n B .laws .left-below k (h .long))
+            omega (arith, h .left, lawful-is (tables file places lefts rights prefixes area) n B .laws .left-below k (h .long))
 
     above-right : y < k
     above-right = go (ℕ-discrete k none)
@@ -70,7 +71,7 @@ module _ (file places lefts rights area : List ℕ) (n : ℕ) where
         go (yes e) = omega (arith, few)
         go (no s) =
             let h = listed-is (dictionaryOf file) k x y (J .built prefixes B .is s) in
-            omega (arith, h .right, lawful-is file places lefts rights prefixes area n B .laws .right-below k (h .long))
+            omega (arith, h .right, lawful-is (tables file places lefts rights prefixes area) n B .laws .right-below k (h .long))
 
 module _ (file places lefts rights area : List ℕ) (n len : ℕ) (words work keys : List ℕ) (T : JoinsReady file places lefts rights area n) (K : Keyed file places lefts rights area n len words work keys)
     (row at : ℕ) (below : row < n) (placed : at < 4096) (here : getD keys at 0 ≡ row) where
@@ -176,13 +177,13 @@ module _ (file places lefts rights area : List ℕ) (n len : ℕ) (words work ke
   }
 
   -- the code at the place before does not meet the one at the place
-  module _ (prefixes : List ℕ) (B : Built file places lefts rights prefixes area n) where
+  module _ (prefixes : List ℕ) (B : Built (tables file places lefts rights prefixes area) n) where
     abbrev D : Dictionary
     D = dictionaryOf file
 
     apart-right : (x : ℕ) → listed (dictionaryOf file) row x row ≡ false
     apart-right x = bool-cases (listed D row x row)
-        (λ e. let h = listed-is D row x row e in absurd (omega (arith, h .right, lawful-is file places lefts rights prefixes area n B .laws .right-below row (h .long))))
+        (λ e. let h = listed-is D row x row e in absurd (omega (arith, h .right, lawful-is (tables file places lefts rights prefixes area) n B .laws .right-below row (h .long))))
         (λ e. e)
 
     last-key : last < at → JoinKey file places lefts rights area n (getD work last 0) (getD work at 0) (getD keys last 0)
@@ -195,13 +196,13 @@ module _ (file places lefts rights area : List ℕ) (n len : ℕ) (words work ke
         (λ l.
         let e : lastOr row front ≡ getD work last 0 = ap (lastOr row) (last-some bits work at last (A .last-is) l) ∙ lastOr-append row row (live bits work last 0) (getD work last 0 ∷ []) (λ z. nil-cons (sym z)) in
         rw e (bool-cases (listed D row (getD work last 0) (getD work at 0)) (λ f. absurd (A .first l (last-key l .built prefixes B .only row (A .below) f))) (λ f. f)))
-        (λ l. rw (last-none bits work at last (A .last-is) l) (apart D (lawful-is file places lefts rights prefixes area n B .laws) row (getD work at 0)))
+        (λ l. rw (last-none bits work at last (A .last-is) l) (apart D (lawful-is (tables file places lefts rights prefixes area) n B .laws) row (getD work at 0)))
         (lt-or-ge last at)
 
     pass-same : pass row (listed (dictionaryOf file) row) (live (isSet words) work at 0 ++ row ∷ live (isSet words) work (len - suc next) (suc next))
         ≡ pass row (listed (dictionaryOf file) row) (live (isSet words) work len 0)
     pass-same =
-        pass-joined row (listed D row) (apart D (lawful-is file places lefts rights prefixes area n B .laws) row) apart-right (getD work at 0) (getD work next 0)
+        pass-joined row (listed D row) (apart D (lawful-is (tables file places lefts rights prefixes area) n B .laws) row) apart-right (getD work at 0) (getD work next 0)
         (at-key .built prefixes B .is (λ z. omega (arith, A .below, small))) back front apart-last
         ∙ ap (pass row (listed D row)) (sym whole)
 

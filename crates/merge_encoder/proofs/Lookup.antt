@@ -13,6 +13,7 @@ use Rattle.built.specs.Built.{dictionaryOf, Built}
 use Rattle.built.proofs.Rows.{count-is, row-bytes, lawful-is, known}
 use Rattle.merge_encoder.specs.Encoding.{RowsReady}
 use Rattle.merge_encoder.specs.Steps.{ByteCode}
+use Rattle.tables.specs.Tables.{tables}
 
 -- the part of a text that is the byte at a place
 one-byte : (t : List ℕ) (i : ℕ) → i < length t → take (i + 1 - i) (drop i t) ≡ getD t i 0 ∷ []
@@ -27,14 +28,14 @@ module _ (file placeTable area : List ℕ) (n : ℕ) (R : RowsReady file placeTa
     f : Found file placeTable n area (b ∷ []) c
     f = subst (λ (s : List ℕ). Found file placeTable n area s c) (one-byte t i h) F
 
-    own : (lefts rights prefixes : List ℕ) → Built file placeTable lefts rights prefixes area n → dictionaryOf file .code b < n
+    own : (lefts rights prefixes : List ℕ) → Built (tables file placeTable lefts rights prefixes area) n → dictionaryOf file .code b < n
     own lefts rights prefixes B =
-        omega (arith, known file placeTable lefts rights prefixes area n B (b ∷ []) (small, tt) .0, count-is file placeTable lefts rights prefixes area n B)
+        omega (arith, known (tables file placeTable lefts rights prefixes area) n B (b ∷ []) (small, tt) .0, count-is (tables file placeTable lefts rights prefixes area) n B)
 
-    spelled : (lefts rights prefixes : List ℕ) → Built file placeTable lefts rights prefixes area n → row file placeTable n (dictionaryOf file .code b) ≡ b ∷ []
+    spelled : (lefts rights prefixes : List ℕ) → Built (tables file placeTable lefts rights prefixes area) n → row file placeTable n (dictionaryOf file .code b) ≡ b ∷ []
     spelled lefts rights prefixes B =
-        row-bytes file placeTable lefts rights prefixes area n B (dictionaryOf file .code b) (own lefts rights prefixes B)
-        ∙ lawful-is file placeTable lefts rights prefixes area n B .laws .byte b
+        row-bytes (tables file placeTable lefts rights prefixes area) n B (dictionaryOf file .code b) (own lefts rights prefixes B)
+        ∙ lawful-is (tables file placeTable lefts rights prefixes area) n B .laws .byte b
 
     pub byte-none : c ≡ none → ByteCode file placeTable area n (getD t i 0) 0
     byte-none e = record {
@@ -46,10 +47,10 @@ module _ (file placeTable area : List ℕ) (n : ℕ) (R : RowsReady file placeTa
     byte-some s = record {
       below = ⊎-elim (λ e. absurd (s e)) (λ h. h) (f .bound);
       built = λ lefts rights prefixes B.
-          let A = lawful-is file placeTable lefts rights prefixes area n B in
-          let e = count-is file placeTable lefts rights prefixes area n B in
+          let A = lawful-is (tables file placeTable lefts rights prefixes area) n B in
+          let e = count-is (tables file placeTable lefts rights prefixes area) n B in
           let j = f .found (B .finds) .is s in
           let o = own lefts rights prefixes B in
           distinct (dictionaryOf file) A c (dictionaryOf file .code b) (omega (arith, j .0)) (omega arith)
-          (sym (row-bytes file placeTable lefts rights prefixes area n B c (j .0)) ∙ j .1 ∙ sym (A .laws .byte b));
+          (sym (row-bytes (tables file placeTable lefts rights prefixes area) n B c (j .0)) ∙ j .1 ∙ sym (A .laws .byte b));
     }

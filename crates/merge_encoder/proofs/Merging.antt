@@ -21,6 +21,7 @@ use Rattle.merge_encoder.specs.Steps.{ByteCodes, FillReady, State, Waiti
 use Rattle.merge_encoder.proofs.Living.{live-all, live-few, live-codes}
 use Rattle.merge_encoder.proofs.Queueing.{queues-start}
 use Rattle.merge_encoder.proofs.Passing.{passed-stage}
+use Rattle.tables.specs.Tables.{tables}
 
 -- the passes of the rows below `row` are made
 pub record Merging (file places lefts rights area : List ℕ) (n len : ℕ) (words₀ work₀ words work keys heads pool : List ℕ) (count row : ℕ) : Type 0 where
@@ -69,13 +70,13 @@ module _ (file places lefts rights area : List ℕ) (n len : ℕ) (words₀ work
 
 -- the codes of a text's bytes, all of them live, and no keys
 module _ (file places lefts rights area : List ℕ) (n : ℕ) (text out work : List ℕ) (R : EncodeReady file places lefts rights area n text out work) where
-  pub tables : JoinsReady file places lefts rights area n
-  tables = record { rows-ready = R .rows-ready; parts-ready = R .parts-ready }
+  pub joins-ready : JoinsReady file places lefts rights area n
+  joins-ready = record { rows-ready = R .rows-ready; parts-ready = R .parts-ready }
 
   module _ (work1 : List ℕ) (F : ByteCodes file places area n text work work1) where
     pub fill-ready : FillReady file places lefts rights area n (length text) work1 (replicate 4096 none) (replicate 4096 0) (replicate 12289 0)
     fill-ready = record {
-      tables = tables;
+      tables = joins-ready;
       codes-ready = record { few = R .short; room = omega (arith, R .work-room, F .work-length); codes = F .codes };
       queues = queues-start;
       keys-room = length-replicate 4096 none;
@@ -102,8 +103,8 @@ module _ (file places lefts rights area : List ℕ) (n : ℕ) (text out work : L
           M .built prefixes B
           ∙ ap (passedBelow D n) (first ∙ F .built lefts rights prefixes B)
           ∙ passed-stage D n text
-          ∙ ap (λ (p : ℕ). stage D p text) (sym (count-is file places lefts rights prefixes area n B))
-          ∙ sym (merge-is-stage D (lawful-is file places lefts rights prefixes area n B) text)
+          ∙ ap (λ (p : ℕ). stage D p text) (sym (count-is (tables file places lefts rights prefixes area) n B))
+          ∙ sym (merge-is-stage D (lawful-is (tables file places lefts rights prefixes area) n B) text)
 
       pub encoded : Encoded file places lefts rights area n text out out' work work2 r
       encoded = record {

@@ -23,17 +23,18 @@ use Rattle.built.proofs.Rows.{count-is, places-ready, lawful-is, tells, distinc
 use Rattle.built.proofs.InForm.{ready}
 use Rattle.merge_encoder.specs.Queues.{PushReady, Pushed}
 use Rattle.merge_encoder.specs.Steps.{JoinKey, RenewReady, Renewed, Later}
+use Rattle.tables.specs.Tables.{tables}
 
 -- k is the row below n that has x and y as its parts, or none
 module _ (file places lefts rights area : List ℕ) (n x y k : ℕ) (hx : x < n) (hy : y < n) (J : JoinIs file places lefts rights area n n n x y k) where
-  module _ (prefixes : List ℕ) (B : Built file places lefts rights prefixes area n) where
+  module _ (prefixes : List ℕ) (B : Built (tables file places lefts rights prefixes area) n) where
     abbrev D : Dictionary
     D = dictionaryOf file
 
     pair-ready : PairReady file places lefts rights area n n x y
     pair-ready = record {
-      places-ready = places-ready file places lefts rights prefixes area n B;
-      parts-ready = ready file places lefts rights prefixes area n B .parts-ready;
+      places-ready = places-ready (tables file places lefts rights prefixes area) n B;
+      parts-ready = ready (tables file places lefts rights prefixes area) n B .parts-ready;
       area-room = B .area-room;
       few = omega arith;
       left-below = hx;
@@ -41,14 +42,14 @@ module _ (file places lefts rights area : List ℕ) (n x y k : ℕ) (hx : x < n)
     }
 
     some : (k ≡ none → ⊥) → listed (dictionaryOf file) k x y ≡ true
-    some z = J .is z pair-ready D (tells file places lefts rights prefixes area n B) (distinct-rows file places lefts rights prefixes area n B) (B .finds)
+    some z = J .is z pair-ready D (tells (tables file places lefts rights prefixes area) n B) (distinct-rows (tables file places lefts rights prefixes area) n B) (B .finds)
 
     only : (r : ℕ) → r < n → listed (dictionaryOf file) r x y ≡ true → Dec (k ≡ none) → k ≡ r
     only r h e (yes z) =
-        absurd (true-false (sym (listed-one D n x y r h e) ∙ J .nothing z pair-ready D (tells file places lefts rights prefixes area n B) (distinct-rows file places lefts rights prefixes area n B) (B .finds) (B .pairs-marked)))
+        absurd (true-false (sym (listed-one D n x y r h e) ∙ J .nothing z pair-ready D (tells (tables file places lefts rights prefixes area) n B) (distinct-rows (tables file places lefts rights prefixes area) n B) (B .finds) (B .pairs-marked)))
     only r h e (no z) =
-        let L = lawful-is file places lefts rights prefixes area n B in
-        let c = count-is file places lefts rights prefixes area n B in
+        let L = lawful-is (tables file places lefts rights prefixes area) n B in
+        let c = count-is (tables file places lefts rights prefixes area) n B in
         let l : k < n = ⊎-elim (λ w. absurd (z w)) (λ w. w) (J .bound) in
         distinct D L k r (omega arith) (omega arith) (sym (spell-hit D (L .laws) k x y (some z)) ∙ spell-hit D (L .laws) r x y e)
 

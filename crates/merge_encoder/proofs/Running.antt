@@ -18,6 +18,7 @@ use Rattle.merge_encoder.specs.Live.{live, NextLive, LastLive}
 use Rattle.merge_encoder.specs.Queues.{Queued}
 use Rattle.merge_encoder.specs.Steps.{JoinKey, KeyIs, Keyed, State, Later, Around, Turned, Behind, During, Ran}
 use Rattle.merge_encoder.proofs.Joining.{here-on, here-below, here-next}
+use Rattle.tables.specs.Tables.{tables}
 
 -- a key is a row or none
 pub key-below : (file places lefts rights area : List ℕ) (n len : ℕ) (words work keys : List ℕ) → Keyed file places lefts rights area n len words work keys
@@ -72,7 +73,7 @@ module _ (file places lefts rights area : List ℕ) (n len : ℕ) (T : JoinsRead
       go (yes z) = rw z gone
       go (no z) = same p z ∙ e
 
-  module _ (prefixes : List ℕ) (B : Built file places lefts rights prefixes area n) (entry : ℕ) (known : entry < count) (R : During (isSet words) keys heads pool row entry at) where
+  module _ (prefixes : List ℕ) (B : Built (tables file places lefts rights prefixes area) n) (entry : ℕ) (known : entry < count) (R : During (isSet words) keys heads pool row entry at) where
     not-none : row ≡ none → ⊥
     not-none e = omega (arith, A .below, few)
 

@@ -5,6 +5,7 @@ use Prim.Native.Nat.{ℕ, _≤_, _<_}
 use lib.ListN.{length, getD, drop}
 use Rattle.theory.specs.Dictionary.{Dictionary}
 use Rattle.theory.specs.Merge.{encode}
+use Rattle.tables.specs.Tables.{tables}
 use Rattle.tables.specs.Ready.{PlacesReady, PartsReady}
 use Rattle.built.specs.Built.{dictionaryOf, Built}
 
@@ -20,7 +21,7 @@ pub record JoinsReady (file places lefts rights area : List ℕ) (n : ℕ) : Typ
 
 -- what holds where an accepting build left the tables
 abbrev pub WhenBuilt : List ℕ → List ℕ → List ℕ → List ℕ → List ℕ → ℕ → (Dictionary → Type 0) → Type 0
-WhenBuilt file places lefts rights area n P = (prefixes : List ℕ) → Built file places lefts rights prefixes area n → P (dictionaryOf file)
+WhenBuilt file places lefts rights area n P = (prefixes : List ℕ) → Built (tables file places lefts rights prefixes area) n → P (dictionaryOf file)
 
 -- the first k numbers of a buffer are codes: row numbers
 abbrev pub Codes : ℕ → List ℕ → ℕ → Type 0

@@ -5,6 +5,7 @@ use mathlib.Core.Bool.{Bool, cond}
 use Prim.Native.Nat.{ℕ, _<_}
 use lib.Dec.{ltb}
 use Rattle.causes.specs.declared.Cause.the-variants.{OutOfForm, UnknownCode}
+use Rattle.tables.specs.Tables.{Tables}
 use Rattle.tables.specs.declared.Form.{Form}
 use Rattle.tables.specs.declared.Form.the-variants as Form
 use Rattle.tables.specs.InForm.{formOf}
@@ -19,7 +20,7 @@ pairAnswer Form.Out token1 token2 b = Refused OutOfForm
 pairAnswer (Form.Rows n) token1 token2 b = cond (ltb token1 n) (cond (ltb token2 n) (Passes b) (Refused (UnknownCode 1))) (Refused (UnknownCode 0))
 
 -- the answer; over tables that build left, the check is the definition's, over all rows
-pub record PairChecked (file placeTable lefts rights prefixes area : List ℕ) (token1 token2 : ℕ) (r : PairAnswer) : Type 0 where
+pub record PairChecked (T : Tables) (token1 token2 : ℕ) (r : PairAnswer) : Type 0 where
   pub check : Bool
-  pub answer : r ≡ pairAnswer (formOf file placeTable lefts rights prefixes area) token1 token2 check
-  pub built : (n : ℕ) → Built file placeTable lefts rights prefixes area n → token1 < n → token2 < n → check ≡ passes (dictionaryOf file) n token1 token2
+  pub answer : r ≡ pairAnswer (formOf T) token1 token2 check
+  pub built : (n : ℕ) → Built T n → token1 < n → token2 < n → check ≡ passes (dictionaryOf (T .file)) n token1 token2

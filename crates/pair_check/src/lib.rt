@@ -1,5 +1,6 @@
 // The public pair check: whether two codes may stand beside each other.
 ghost use Rattle.pair_check.specs.Pair.{PairChecked};
+ghost use Rattle.tables.specs.Tables.{lent};
 use causes::Cause;
 use tables::Form;
 
@@ -20,7 +21,7 @@ pub fn is_valid_token_pair(
     token1: u32,
     token2: u32,
 ) -> PairAnswer
-    ensures { λ r. ⌜ PairChecked (now (file .entry)) (now (places .entry)) (now (lefts .entry)) (now (rights .entry)) (now (prefixes .entry)) (now (area .entry)) token1 token2 r ⌝ }
+    ensures { λ r. ⌜ PairChecked (lent file places lefts rights prefixes area) token1 token2 r ⌝ }
 {
     let Form::Rows(n) = tables::tables_in_form(file, places, lefts, rights, prefixes, area) else {
         return PairAnswer::Refused(Cause::OutOfForm);

@@ -13,6 +13,7 @@ use Rattle.built.specs.Built.{dictionaryOf, Built}
 use Rattle.prefix_table.specs.LastCodes.{LastCodesTo, PrefixesReady, PrefixesAre}
 use Rattle.prefix_table.specs.Walk.{walked, WalkReady, WriteReady, TableReady, TableCodes}
 use Rattle.prefix_table.proofs.Walking.{walked-few, walked-rows, walked-codes}
+use Rattle.tables.specs.Tables.{tables}
 
 module _ (file places lefts rights area : List ℕ) (n : ℕ) (text out work : List ℕ) (R : TableReady file places lefts rights area n text out work) where
   pub prefixes-ready : PrefixesReady file places lefts rights area n text work
@@ -45,12 +46,12 @@ module _ (file places lefts rights area : List ℕ) (n : ℕ) (text out work : L
           codes : List ℕ
           codes = walked file work' (length text)
 
-          last-codes : (prefixes : List ℕ) → Built file places lefts rights prefixes area n → LastCodesTo file text work' (length text)
+          last-codes : (prefixes : List ℕ) → Built (tables file places lefts rights prefixes area) n → LastCodesTo file text work' (length text)
           last-codes prefixes B j h =
               let D = dictionaryOf file in
               ap (λ (L : List ℕ). getD L j 0) (P .built prefixes B)
               ∙ List·getD-append (lastCodes D text) (drop (length text) work) 0 j (omega (arith, length-lastCodes D text))
               ∙ getD-lastCodes D text j 0 h
 
-          merged : (prefixes : List ℕ) → Built file places lefts rights prefixes area n → codes ≡ encode (dictionaryOf file) text
-          merged prefixes B = walked-codes file places lefts rights prefixes area n text work' B o (walk-ready .before .room) (last-codes prefixes B)
+          merged : (prefixes : List ℕ) → Built (tables file places lefts rights prefixes area) n → codes ≡ encode (dictionaryOf file) text
+          merged prefixes B = walked-codes (tables file places lefts rights prefixes area) n text work' B o (walk-ready .before .room) (last-codes prefixes B)

@@ -16,6 +16,7 @@ use Rattle.built.specs.Built.{dictionaryOf, Built}
 use Rattle.end_code.specs.Tables.{RowsTo}
 use Rattle.end_code.specs.Codes.{CodeReady, CodeIs}
 use Rattle.prefix_table.specs.LastCodes.{LastCodesTo, PrefixesReady, PrefixesAre}
+use Rattle.tables.specs.Tables.{tables}
 
 module _ (file places lefts rights area : List ℕ) (n : ℕ) (text table₀ : List ℕ) where
   -- the first i entries are written
@@ -25,7 +26,7 @@ module _ (file places lefts rights area : List ℕ) (n : ℕ) (text table₀ : L
     pub same-length : length table ≡ length table₀
     pub beyond : drop i table ≡ drop i table₀
     pub rows : RowsTo n table i
-    pub built : (prefixes : List ℕ) → Built file places lefts rights prefixes area n → LastCodesTo file text table i
+    pub built : (prefixes : List ℕ) → Built (tables file places lefts rights prefixes area) n → LastCodesTo file text table i
 
   pub filling-start : PrefixesReady file places lefts rights area n text table₀ → Filling 0 table₀
   filling-start R = record {

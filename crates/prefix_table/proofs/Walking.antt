@@ -17,6 +17,7 @@ use Rattle.end_code.specs.Tables.{RowReady, RowsTo}
 use Rattle.prefix_table.specs.LastCodes.{LastCodesTo}
 use Rattle.prefix_table.specs.Walk.{walked, WalkReady, WriteReady}
 use Rattle.end_code.proofs.Sizes.{any-default, row-some}
+use Rattle.tables.specs.Tables.{Tables}
 
 module _ (file places : List ℕ) (n : ℕ) (table : List ℕ) (m : ℕ) (R : WalkReady file places n table m) where
   abbrev D : Dictionary
@@ -201,10 +202,10 @@ module _ (file places : List ℕ) (n : ℕ) (table : List ℕ) (m : ℕ) where
             )
 
 -- behind true last codes the walk gives the codes of the merge procedure
-pub walked-codes : (file places lefts rights prefixes area : List ℕ) (n : ℕ) (text table : List ℕ) → Built file places lefts rights prefixes area n → Octets text
-    → length text ≤ length table → LastCodesTo file text table (length text) → walked file table (length text) ≡ encode (dictionaryOf file) text
+pub walked-codes : (T : Tables) (n : ℕ) (text table : List ℕ) → Built T n → Octets text
+    → length text ≤ length table → LastCodesTo (T .file) text table (length text) → walked (T .file) table (length text) ≡ encode (dictionaryOf (T .file)) text
 unfolding walked
-walked-codes file places lefts rights prefixes area n text table B o room agree =
-    walkBack-codes (dictionaryOf file) (lawful-is file places lefts rights prefixes area n B) text (known file places lefts rights prefixes area n B text o) (length text) (length text) table (omega arith) (omega arith)
+walked-codes T n text table B o room agree =
+    walkBack-codes (dictionaryOf (T .file)) (lawful-is T n B) text (known T n B text o) (length text) (length text) table (omega arith) (omega arith)
     (λ j h. any-default table j none 0 (omega arith) ∙ agree j h)
-    ∙ ap (encode (dictionaryOf file)) (take-length text)
+    ∙ ap (encode (dictionaryOf (T .file))) (take-length text)

@@ -6,6 +6,7 @@ use lib.ListN.{length, getD, take, drop}
 use Rattle.theory.specs.Table.{lastCode, lastCodes}
 use Rattle.built.specs.Built.{dictionaryOf, Built}
 use Rattle.end_code.specs.Tables.{RowsTo, PartsInForm}
+use Rattle.tables.specs.Tables.{tables}
 
 -- the table's first i entries are the last codes of the prefixes of the text
 abbrev pub LastCodesTo : List ℕ → List ℕ → List ℕ → ℕ → Type 0
@@ -21,4 +22,4 @@ pub record PrefixesAre (file places lefts rights area : List ℕ) (n : ℕ) (tex
   pub same-length : length table' ≡ length table
   pub beyond : drop (length text) table' ≡ drop (length text) table
   pub rows : RowsTo n table' (length text)
-  pub built : (prefixes : List ℕ) → Built file places lefts rights prefixes area n → table' ≡ lastCodes (dictionaryOf file) text ++ drop (length text) table
+  pub built : (prefixes : List ℕ) → Built (tables file places lefts rights prefixes area) n → table' ≡ lastCodes (dictionaryOf file) text ++ drop (length text) table

@@ -5,6 +5,7 @@ use Prim.Native.Nat.{ℕ, _≤_}
 use lib.ListN.{length, drop}
 use Rattle.theory.specs.Merge.{encode}
 use Rattle.theory.specs.Table.{walkBack}
+use Rattle.tables.specs.Tables.{tables}
 use Rattle.tables.specs.Ready.{PlacesReady}
 use Rattle.built.specs.Built.{dictionaryOf, Built}
 use Rattle.end_code.specs.Tables.{RowsTo, FrontRows, PartsInForm}
@@ -39,5 +40,5 @@ pub record TableCodes (file places lefts rights area : List ℕ) (n : ℕ) (text
   pub out-beyond : drop r out' ≡ drop r out
   pub work-length : length work' ≡ length work
   pub work-beyond : drop (length text) work' ≡ drop (length text) work
-  pub built : (prefixes : List ℕ) → Built file places lefts rights prefixes area n
+  pub built : (prefixes : List ℕ) → Built (tables file places lefts rights prefixes area) n
       → (r ≡ length (encode (dictionaryOf file) text)) × (out' ≡ encode (dictionaryOf file) text ++ drop r out)

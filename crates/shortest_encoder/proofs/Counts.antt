@@ -17,6 +17,7 @@ use Rattle.theory.proofs.ShortestSteps.{chosen, chosen-in, shortest-nil, shorte
 use Rattle.built.specs.Built.{dictionaryOf, Built}
 use Rattle.built.proofs.Rows.{count-is, bytes-are, places-ready}
 use Rattle.shortest_encoder.specs.Entries.{entryOf, entry, countFrom, Bounded, AreEntries}
+use Rattle.tables.specs.Tables.{Tables}
 
 module _ (work : List ℕ) (m j : ℕ) where
   pub count-inside : j < m → getD work j 0 / 262144 ≡ countFrom work m j
@@ -50,13 +51,13 @@ pub record Fits (D : Dictionary) : Type 0 where
   pub few : D .count ≤ 4096
   pub short : (c : ℕ) → c < D .count → length (D .bytes c) ≤ 64
 
-pub built-fits : (file places lefts rights prefixes area : List ℕ) (n : ℕ) → Built file places lefts rights prefixes area n → Fits (dictionaryOf file)
-built-fits file places lefts rights prefixes area n B =
-    let P = places-ready file places lefts rights prefixes area n B in
-    let e = count-is file places lefts rights prefixes area n B in
+pub built-fits : (T : Tables) (n : ℕ) → Built T n → Fits (dictionaryOf (T .file))
+built-fits T n B =
+    let P = places-ready T n B in
+    let e = count-is T n B in
     record {
       few = omega (arith, P .placed .few);
-      short = λ c h. let k : c < n = omega arith in omega (arith, P .short c k, ap length (bytes-are file places lefts rights prefixes area n B c k));
+      short = λ c h. let k : c < n = omega arith in omega (arith, P .short c k, ap length (bytes-are T n B c k));
     }
 
 module _ (D : Dictionary) (A : Lawful D) (F : Fits D) where

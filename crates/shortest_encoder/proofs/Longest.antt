@@ -20,6 +20,7 @@ use Rattle.built.proofs.Lookups.{NextIs, next-is}
 use Rattle.shortest_encoder.specs.Encoders.{Written, GreedyReady, GreedyIs}
 use Rattle.shortest_encoder.proofs.Trying.{Bytes, bytes-drop}
 use Rattle.shortest_encoder.proofs.Writing.{written-start, written-more, all-written, codes-room}
+use Rattle.tables.specs.Tables.{tables}
 
 -- a row that is found has bytes
 found : (file places : List ℕ) (n : ℕ) (area t : List ℕ) (r l : ℕ) → NextMatch file places n area t r l → (r ≡ none → ⊥) → (r < n) × (0 < l)
@@ -32,26 +33,26 @@ pub record Taking (file places area : List ℕ) (n : ℕ) (text out₀ out : Lis
   pub place : at ≤ length text
   pub behind : count ≤ at
   pub written : Written n text out₀ out count
-  pub built : (lefts rights prefixes : List ℕ) → Built file places lefts rights prefixes area n
+  pub built : (lefts rights prefixes : List ℕ) → Built (tables file places lefts rights prefixes area) n
       → Filled (greedy (dictionaryOf file) text) out₀ count (greedy (dictionaryOf file) (drop at text)) out
 
 module _ (file places area : List ℕ) (n : ℕ) (text out₀ : List ℕ) (R : GreedyReady file places area n text out₀) (o : Bytes text) (lefts rights prefixes : List ℕ)
-    (B : Built file places lefts rights prefixes area n) where
+    (B : Built (tables file places lefts rights prefixes area) n) where
   abbrev D : Dictionary
   D = dictionaryOf file
 
   A : Lawful D
-  A = lawful-is file places lefts rights prefixes area n B
+  A = lawful-is (tables file places lefts rights prefixes area) n B
 
   room : length (greedy D text) ≤ length out₀
-  room = codes-room D A text out₀ (greedy D text) (greedy-spells D A text (known file places lefts rights prefixes area n B text (bytes-drop text 0 o))) (R .out-room)
+  room = codes-room D A text out₀ (greedy D text) (greedy-spells D A text (known (tables file places lefts rights prefixes area) n B text (bytes-drop text 0 o))) (R .out-room)
 
   module _ (at r l : ℕ) (h : at < length text) (m : NextMatch file places n area (drop at text) r l) where
     some : 0 < length (drop at text)
     some = omega (arith, length-drop at text)
 
-    longest : NextIs file places lefts rights prefixes area n B (drop at text) r l
-    longest = next-is file places lefts rights prefixes area n B (drop at text) (bytes-drop text at o) some r l m
+    longest : NextIs (tables file places lefts rights prefixes area) n B (drop at text) r l
+    longest = next-is (tables file places lefts rights prefixes area) n B (drop at text) (bytes-drop text at o) some r l m
 
     -- the row that is found is the first of the greedy codes from there on
     step : greedy D (drop at text) ≡ r ∷ greedy D (drop (at + l) text)

@@ -9,6 +9,7 @@ use lib.Seq.{getD-set-same, getD-set-other, drop-set-lt}
 use Rattle.built.specs.Built.{dictionaryOf, Built}
 use Rattle.shortest_encoder.specs.Entries.{entry, Bounded, AreEntries, EntryReady, EntryIs, Entries}
 use Rattle.shortest_encoder.specs.Encoders.{EntriesReady}
+use Rattle.tables.specs.Tables.{tables}
 
 -- what holds of each entry from k + 1 on, and of the new one at k, holds from k on
 set-from : (P : ℕ → ℕ → Type 0) (work : List ℕ) (k r : ℕ) → k < length work → P k r → ((j : ℕ) → k + 1 ≤ j → P j (getD work j 0)) → (j : ℕ) → k ≤ j → P j (getD (set work k r) j 0)
@@ -25,7 +26,7 @@ pub record Placing (file places area : List ℕ) (n : ℕ) (text work₀ work : 
   pub size : length work ≡ length work₀
   pub beyond : drop (length text) work ≡ drop (length text) work₀
   pub bounded : Bounded n work (length text) i
-  pub built : (lefts rights prefixes : List ℕ) → Built file places lefts rights prefixes area n → AreEntries (dictionaryOf file) text work i
+  pub built : (lefts rights prefixes : List ℕ) → Built (tables file places lefts rights prefixes area) n → AreEntries (dictionaryOf file) text work i
 
 module _ (file places area : List ℕ) (n : ℕ) (text work₀ : List ℕ) where
   pub placing-start : EntriesReady file places area n text work₀ → Placing file places area n text work₀ work₀ (length text)

@@ -23,6 +23,7 @@ use Rattle.shortest_encoder.specs.Entries.{entryOf, entry, countFrom, Ar
 use Rattle.shortest_encoder.proofs.Counts.{entry-holds, count-few, built-fits, entry-gives, counts-are}
 use Rattle.shortest_encoder.proofs.Rising.{reached-none, none-empty, within}
 use Rattle.shortest_encoder.proofs.Keeping.{Best, best-first, best-replaced, best-kept}
+use Rattle.tables.specs.Tables.{tables}
 
 -- each element of a text is an octet
 abbrev pub Bytes : List ℕ → Type 0
@@ -52,7 +53,7 @@ pub record Trying (file places area : List ℕ) (n : ℕ) (text work : List ℕ)
   pub inside : i + len ≤ length text
   pub best-row : best % 4096 < n
   pub few : best / 262144 ≤ length text - i
-  pub tried : (lefts rights prefixes : List ℕ) → Built file places lefts rights prefixes area n → Tried file places n text work i best p len
+  pub tried : (lefts rights prefixes : List ℕ) → Built (tables file places lefts rights prefixes area) n → Tried file places n text work i best p len
 
 -- what is known of row r, of l bytes, that is met at place i, on any contents
 pub record Met (n : ℕ) (text work : List ℕ) (i len r l : ℕ) : Type 0 where
@@ -93,7 +94,7 @@ module _ (file places area : List ℕ) (n : ℕ) (text work : List ℕ) (i : ℕ
 
   -- the entry of that row, where it is the best one
   entered : (o : Bytes text) (len r l : ℕ) → Met n text work i len r l → (e : ℕ) → e ≡ entryOf (codesWith work (length text) i l) l r
-      → ((lefts rights prefixes : List ℕ) → Built file places lefts rights prefixes area n → BestAt file places n text work i (codesWith work (length text) i l) r r l)
+      → ((lefts rights prefixes : List ℕ) → Built (tables file places lefts rights prefixes area) n → BestAt file places n text work i (codesWith work (length text) i l) r r l)
       → Trying file places area n text work i e r l
   entered o len r l m e is best =
       let v = entry-holds (codesWith work (length text) i l) l r (omega (arith, m .longer)) (m .short) (m .narrow) e is in
@@ -113,21 +114,21 @@ module _ (file places area : List ℕ) (n : ℕ) (text work : List ℕ) (i : ℕ
       }
 
   -- on the tables of a build, with the entries of the later places
-  module _ (o : Bytes text) (lefts rights prefixes : List ℕ) (B : Built file places lefts rights prefixes area n) (E : AreEntries (dictionaryOf file) text work (i + 1)) where
+  module _ (o : Bytes text) (lefts rights prefixes : List ℕ) (B : Built (tables file places lefts rights prefixes area) n) (E : AreEntries (dictionaryOf file) text work (i + 1)) where
     abbrev D : Dictionary
     D = dictionaryOf file
 
     A : Lawful D
-    A = lawful-is file places lefts rights prefixes area n B
+    A = lawful-is (tables file places lefts rights prefixes area) n B
 
     counted : D .count ≡ n
-    counted = count-is file places lefts rights prefixes area n B
+    counted = count-is (tables file places lefts rights prefixes area) n B
 
     here : 0 < length (drop i text)
     here = let l = R .inside in omega (arith, length-drop i text)
 
     K : KnownText D text
-    K = known file places lefts rights prefixes area n B text (bytes-drop text 0 o)
+    K = known (tables file places lefts rights prefixes area) n B text (bytes-drop text 0 o)
 
     K-here : KnownText D (drop i text)
     K-here = known-drop D i text K
@@ -136,8 +137,8 @@ module _ (file places area : List ℕ) (n : ℕ) (text work : List ℕ) (i : ℕ
     behind-is c h =
         let e : behind D (drop i text) c ≡ countFrom work (length text) (i + length (row file places n c)) =
         behind-drop D i text c
-        ∙ sym (counts-are D A (built-fits file places lefts rights prefixes area n B) text work K (i + 1) E (i + rowLength D c) (omega (arith, filled D A c)))
-        ∙ ap (λ (b : List ℕ). countFrom work (length text) (i + length b)) (sym (row-bytes file places lefts rights prefixes area n B c h)) in
+        ∙ sym (counts-are D A (built-fits (tables file places lefts rights prefixes area) n B) text work K (i + 1) E (i + rowLength D c) (omega (arith, filled D A c)))
+        ∙ ap (λ (b : List ℕ). countFrom work (length text) (i + length b)) (sym (row-bytes (tables file places lefts rights prefixes area) n B c h)) in
         omega arith
 
     -- the row that is to be chosen
@@ -153,12 +154,12 @@ module _ (file places area : List ℕ) (n : ℕ) (text work : List ℕ) (i : ℕ
     wanted-begins : Begins (row file places n wanted) (drop i text)
     wanted-begins = record {
       rest = drop (rowLength D wanted) (drop i text);
-      split = rw (row-bytes file places lefts rights prefixes area n B wanted wanted-row) (row-begins D A (drop i text) wanted wanted-in);
+      split = rw (row-bytes (tables file places lefts rights prefixes area) n B wanted wanted-row) (row-begins D A (drop i text) wanted wanted-in);
     }
 
     row-in : (c : ℕ) → c < n → Begins (row file places n c) (drop i text) → In c (rowsAt D (drop i text))
     row-in c h b =
-        let e = row-bytes file places lefts rights prefixes area n B c h in
+        let e = row-bytes (tables file places lefts rights prefixes area) n B c h in
         rows-every D (different D A) (length (drop i text)) (drop i text) c (b .rest) (omega (arith, counted)) (b .split ∙ ap (λ (x : List ℕ). x ++ b .rest) e)
         (omega (arith, begins-length (row file places n c) (drop i text) b, ap length e))
 
@@ -176,14 +177,14 @@ module _ (file places area : List ℕ) (n : ℕ) (text work : List ℕ) (i : ℕ
           ⊎-elim (λ e. e)
           (λ l. absurd (omega (
             arith,
-            ap length (row-bytes file places lefts rights prefixes area n B wanted wanted-row),
-            ap length (row-bytes file places lefts rights prefixes area n B (best % 4096) h),
+            ap length (row-bytes (tables file places lefts rights prefixes area) n B wanted wanted-row),
+            ap length (row-bytes (tables file places lefts rights prefixes area) n B (best % 4096) h),
           )))
           (chosen-longest D A (drop i text) K-here here (best % 4096) m (omega arith))
 
       entry-here : best ≡ entry D (drop i text)
       entry-here =
-          let g = entry-gives D A (built-fits file places lefts rights prefixes area n B) (drop i text) K-here here in
+          let g = entry-gives D A (built-fits (tables file places lefts rights prefixes area) n B) (drop i text) K-here here in
           omega (
             arith,
             g .is,
@@ -191,7 +192,7 @@ module _ (file places area : List ℕ) (n : ℕ) (text work : List ℕ) (i : ℕ
             T .size,
             behind-is (best % 4096) h,
             best-is,
-            ap length (row-bytes file places lefts rights prefixes area n B (best % 4096) h),
+            ap length (row-bytes (tables file places lefts rights prefixes area) n B (best % 4096) h),
             ap (rowLength D) best-is,
             ap length (shortest-cons D A (drop i text) K-here here),
             ap (behind D (drop i text)) best-is,
@@ -202,7 +203,7 @@ module _ (file places area : List ℕ) (n : ℕ) (text work : List ℕ) (i best 
   R = T .ready
 
   -- no longer row is left
-  done : ((lefts rights prefixes : List ℕ) → Built file places lefts rights prefixes area n → (d : ℕ) → d < n → Begins (row file places n d) (drop i text) → length (row file places n d) ≤ len)
+  done : ((lefts rights prefixes : List ℕ) → Built (tables file places lefts rights prefixes area) n → (d : ℕ) → d < n → Begins (row file places n d) (drop i text) → length (row file places n d) ≤ len)
       → EntryIs file places area n text work i best
   done all = record {
     row = T .best-row;
@@ -218,7 +219,7 @@ module _ (file places area : List ℕ) (n : ℕ) (text work : List ℕ) (i best 
   trying-ends h = done (λ lefts rights prefixes B d k b. omega (arith, begins-length (row file places n d) (drop i text) b, length-drop i text))
 
   module _ (r l : ℕ) (M : LongerMatch file places n area (drop i text) p len r l) where
-    next : (lefts rights prefixes : List ℕ) → Built file places lefts rights prefixes area n → Longer (row file places n) n (drop i text) len r l
+    next : (lefts rights prefixes : List ℕ) → Built (tables file places lefts rights prefixes area) n → Longer (row file places n) n (drop i text) len r l
     next lefts rights prefixes B = M .next (B .finds) (T .tried lefts rights prefixes B .is .reached)
 
     pub trying-stops : r ≡ none → EntryIs file places area n text work i best
@@ -272,7 +273,7 @@ module _ (file places area : List ℕ) (n : ℕ) (text work : List ℕ) (i best 
 -- the first row
 module _ (file places area : List ℕ) (n : ℕ) (text work : List ℕ) (i : ℕ) (R : EntryReady file places area n text work i) (o : Bytes text) (r l : ℕ)
     (M : LongerMatch file places n area (drop i text) none 0 r l) where
-  first : (lefts rights prefixes : List ℕ) → Built file places lefts rights prefixes area n → Longer (row file places n) n (drop i text) 0 r l
+  first : (lefts rights prefixes : List ℕ) → Built (tables file places lefts rights prefixes area) n → Longer (row file places n) n (drop i text) 0 r l
   first lefts rights prefixes B = M .next (B .finds) (reached-none (row file places n) n (drop i text) (none-empty file places n (R .ready .places-ready .placed)))
 
   pub trying-none : r ≡ none → EntryIs file places area n text work i 0

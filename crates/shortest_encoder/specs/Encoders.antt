@@ -4,6 +4,7 @@ use mathlib.Core.List.{List, _++_}
 use Prim.Native.Nat.{ℕ, _≤_, _<_}
 use lib.ListN.{length, getD, drop}
 use Rattle.theory.specs.Shortest.{shortest, greedy}
+use Rattle.tables.specs.Tables.{tables}
 use Rattle.tables.specs.Ready.{PlacesReady}
 use Rattle.built.specs.Built.{dictionaryOf, Built}
 
@@ -35,7 +36,7 @@ pub record MinimalIs (file places area : List ℕ) (n : ℕ) (text out out' work
   pub written : Written n text out out' r
   pub work-size : length work' ≡ length work
   pub work-beyond : drop (length text) work' ≡ drop (length text) work
-  pub built : (lefts rights prefixes : List ℕ) → Built file places lefts rights prefixes area n → Codes (shortest (dictionaryOf file) text) out out' r
+  pub built : (lefts rights prefixes : List ℕ) → Built (tables file places lefts rights prefixes area) n → Codes (shortest (dictionaryOf file) text) out out' r
 
 -- `encode_greedy`: the longest row at each place
 pub record GreedyReady (file places area : List ℕ) (n : ℕ) (text out : List ℕ) : Type 0 where
@@ -46,4 +47,4 @@ pub record GreedyReady (file places area : List ℕ) (n : ℕ) (text out : List 
 
 pub record GreedyIs (file places area : List ℕ) (n : ℕ) (text out out' : List ℕ) (r : ℕ) : Type 0 where
   pub written : Written n text out out' r
-  pub built : (lefts rights prefixes : List ℕ) → Built file places lefts rights prefixes area n → Codes (greedy (dictionaryOf file) text) out out' r
+  pub built : (lefts rights prefixes : List ℕ) → Built (tables file places lefts rights prefixes area) n → Codes (greedy (dictionaryOf file) text) out out' r

@@ -10,6 +10,7 @@ use Rattle.theory.specs.Dictionary.{Dictionary, none}
 use Rattle.theory.specs.Shortest.{shortest}
 use Rattle.built.specs.Built.{dictionaryOf, Built}
 use Rattle.shortest_encoder.specs.Encoders.{Written, Codes, EntriesReady}
+use Rattle.tables.specs.Tables.{Tables, tables}
 
 -- the entry of count codes, the first of which is row, of len bytes: of two entries the lesser one has fewer codes, or as many and the longer row
 abbrev pub entryOf : ℕ → ℕ → ℕ → ℕ
@@ -45,7 +46,7 @@ pub record EntryReady (file places area : List ℕ) (n : ℕ) (text work : List 
 pub record EntryIs (file places area : List ℕ) (n : ℕ) (text work : List ℕ) (i r : ℕ) : Type 0 where
   pub row : r % 4096 < n
   pub few : r / 262144 ≤ length text - i
-  pub built : (lefts rights prefixes : List ℕ) → Built file places lefts rights prefixes area n → AreEntries (dictionaryOf file) text work (i + 1)
+  pub built : (lefts rights prefixes : List ℕ) → Built (tables file places lefts rights prefixes area) n → AreEntries (dictionaryOf file) text work (i + 1)
       → r ≡ entry (dictionaryOf file) (drop i text)
 
 -- the work buffer has the entries of all places, and is unchanged beyond them
@@ -53,7 +54,7 @@ pub record Entries (file places area : List ℕ) (n : ℕ) (text work work' : Li
   pub size : length work' ≡ length work
   pub beyond : drop (length text) work' ≡ drop (length text) work
   pub bounded : Bounded n work' (length text) 0
-  pub built : (lefts rights prefixes : List ℕ) → Built file places lefts rights prefixes area n → AreEntries (dictionaryOf file) text work' 0
+  pub built : (lefts rights prefixes : List ℕ) → Built (tables file places lefts rights prefixes area) n → AreEntries (dictionaryOf file) text work' 0
 
 -- the codes are read from the entries of all places
 pub record CodesReady (text work out : List ℕ) : Type 0 where
@@ -63,5 +64,5 @@ pub record CodesReady (text work out : List ℕ) : Type 0 where
 
 pub record CodesRead (text work out out' : List ℕ) (r : ℕ) : Type 0 where
   pub written : (n : ℕ) → Bounded n work (length text) 0 → Written n text out out' r
-  pub built : (file places lefts rights prefixes area : List ℕ) (n : ℕ) → Built file places lefts rights prefixes area n → AreEntries (dictionaryOf file) text work 0
-      → Codes (shortest (dictionaryOf file) text) out out' r
+  pub built : (T : Tables) (n : ℕ) → Built T n → AreEntries (dictionaryOf (T .file)) text work 0
+      → Codes (shortest (dictionaryOf (T .file)) text) out out' r

@@ -14,6 +14,7 @@ use Rattle.phrase_file.specs.Form.{places}
 use Rattle.phrase_file.specs.Checks.{checkOf}
 use Rattle.phrase_file.proofs.Checks.{accepted}
 use Rattle.placed_rows.proofs.Beginning.{and-both, no-true, true-false}
+use Rattle.tables.specs.Tables.{Tables}
 use Rattle.tables.specs.declared.Form.{Form}
 use Rattle.tables.specs.declared.Form.the-variants as Form
 use Rattle.tables.specs.InForm.{equal, allBelow, isRows, count, rowSize, rowInForm, largeEnough, inForm, formOf}
@@ -22,15 +23,15 @@ use Rattle.tables.proofs.Sweeps.{equal-true, equal-same, all-each, each
 use Rattle.tables.proofs.Entries.{rows-same}
 
 -- tables in form, n being the count of rows
-pub record Facts (file placeTable lefts rights prefixes area : List ℕ) (n : ℕ) : Type 0 where
-  pub passed : checkOf file ≡ Rows n
-  pub places-room : n ≤ length placeTable
-  pub lefts-room : n ≤ length lefts
-  pub rights-room : n ≤ length rights
-  pub prefixes-room : n ≤ length prefixes
-  pub area-room : 16384 ≤ length area
-  pub places-match : take n placeTable ≡ places file
-  pub rows-fit : (i : ℕ) → i < n → rowInForm n (rowSize file) lefts rights prefixes i ≡ true
+pub record Facts (T : Tables) (n : ℕ) : Type 0 where
+  pub passed : checkOf (T .file) ≡ Rows n
+  pub places-room : n ≤ length (T .places)
+  pub lefts-room : n ≤ length (T .lefts)
+  pub rights-room : n ≤ length (T .rights)
+  pub prefixes-room : n ≤ length (T .prefixes)
+  pub area-room : 16384 ≤ length (T .area)
+  pub places-match : take n (T .places) ≡ places (T .file)
+  pub rows-fit : (i : ℕ) → i < n → rowInForm n (rowSize (T .file)) (T .lefts) (T .rights) (T .prefixes) i ≡ true
 
 rows-passed : (file : List ℕ) → isRows (checkOf file) ≡ true → checkOf file ≡ Rows (count file)
 rows-passed file e = go (checkOf file) refl e
@@ -39,12 +40,14 @@ rows-passed file e = go (checkOf file) refl e
     go (Rows n) q t = q ∙ ap Rows (accepted file n q .count)
     go (Refused cause) q t = absurd (true-false (sym t))
 
-module _ (file placeTable lefts rights prefixes area : List ℕ) where
-  in-facts : inForm file placeTable lefts rights prefixes area ≡ true → Facts file placeTable lefts rights prefixes area (count file)
+module _ (T : Tables) where
+  open Tables T using (file, places as placeTable, lefts, rights, prefixes)
+
+  in-facts : inForm T ≡ true → Facts T (count file)
   unfolding inForm largeEnough
   in-facts e =
       let q = and-both (isRows (checkOf file)) _ e in
-      let q1 = and-both (largeEnough file placeTable lefts rights prefixes area) _ (q .1) in
+      let q1 = and-both (largeEnough T) _ (q .1) in
       let q2 = and-both (equal (take (count file) placeTable) (places file)) _ (q1 .1) in
       let p = and-both (leb (count file) (length placeTable)) _ (q1 .0) in
       let p1 = and-both (leb (count file) (length lefts)) _ (p .1) in
@@ -61,7 +64,7 @@ module _ (file placeTable lefts rights prefixes area : List ℕ) where
         rows-fit = all-each _ (count file) (q2 .1);
       }
 
-  facts-in : Facts file placeTable lefts rights prefixes area (count file) → inForm file placeTable lefts rights prefixes area ≡ true
+  facts-in : Facts T (count file) → inForm T ≡ true
   unfolding inForm largeEnough
   facts-in f =
       rw (
@@ -75,30 +78,30 @@ module _ (file placeTable lefts rights prefixes area : List ℕ) where
       ) (each-all _ (count file) (f .rows-fit))
 
   module _ (n : ℕ) where
-    pub form-facts : formOf file placeTable lefts rights prefixes area ≡ Form.Rows n → Facts file placeTable lefts rights prefixes area n
+    pub form-facts : formOf T ≡ Form.Rows n → Facts T n
     unfolding formOf
-    form-facts e = go (inForm file placeTable lefts rights prefixes area) refl e
+    form-facts e = go (inForm T) refl e
       where
-        go : (b : Bool) → inForm file placeTable lefts rights prefixes area ≡ b → cond b (Form.Rows (count file)) Form.Out ≡ Form.Rows n
-            → Facts file placeTable lefts rights prefixes area n
+        go : (b : Bool) → inForm T ≡ b → cond b (Form.Rows (count file)) Form.Out ≡ Form.Rows n
+            → Facts T n
         go true q t = let z : count file ≡ n = cc in rw z at (in-facts q)
         go false q t = let z : _≡_ {A = ℕ} 0 1 = cc in absurd (omega arith)
 
-    pub facts-form : Facts file placeTable lefts rights prefixes area n → formOf file placeTable lefts rights prefixes area ≡ Form.Rows n
+    pub facts-form : Facts T n → formOf T ≡ Form.Rows n
     unfolding formOf
     facts-form f =
         let z : n ≡ count file = accepted file n (f .passed) .count in
-        let g : Facts file placeTable lefts rights prefixes area (count file) = rw (← z) f in
+        let g : Facts T (count file) = rw (← z) f in
         rw (facts-in g) (ap Form.Rows (sym z))
 
     -- where a fact fails
-    pub facts-fail : checkOf file ≡ Rows n → (Facts file placeTable lefts rights prefixes area n → ⊥) → Form.Out ≡ formOf file placeTable lefts rights prefixes area
+    pub facts-fail : checkOf file ≡ Rows n → (Facts T n → ⊥) → Form.Out ≡ formOf T
     unfolding formOf
     facts-fail p fail =
         let z : n ≡ count file = accepted file n p .count in
-        rw (no-true (inForm file placeTable lefts rights prefixes area) (λ e. fail (rw z (in-facts e))))
+        rw (no-true (inForm T) (λ e. fail (rw z (in-facts e))))
 
-  pub check-fails : (cause : Cause) → checkOf file ≡ Refused cause → Form.Out ≡ formOf file placeTable lefts rights prefixes area
+  pub check-fails : (cause : Cause) → checkOf file ≡ Refused cause → Form.Out ≡ formOf T
   unfolding formOf inForm
   check-fails cause e = rw e
 

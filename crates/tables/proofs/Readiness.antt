@@ -17,6 +17,7 @@ use Rattle.phrase_file.proofs.Checks.{accepted}
 use Rattle.phrase_file.proofs.Rows.{RowIs, row-is}
 use Rattle.placed_rows.specs.Rows.{none, row}
 use Rattle.placed_rows.proofs.Beginning.{and-both}
+use Rattle.tables.specs.Tables.{Tables}
 use Rattle.tables.specs.declared.Form.the-variants as Form
 use Rattle.tables.specs.InForm.{rowSize, prefixInForm, partsInForm, rowInForm, formOf}
 use Rattle.tables.specs.Ready.{Lower, PartsReady, PlacesReady, PrefixesReady, Ready}
@@ -66,8 +67,10 @@ module _ (file : List ℕ) (i l r : ℕ) where
       (λ t. rw (eq-eqb l i (t .left), eq-eqb r i (t .right), eq-eqb (rowSize file i) 1 (t .one)))
       (λ t. rw (lt-ltb l i (t .left), lt-ltb r i (t .right), eq-eqb _ (rowSize file i) (t .sizes), or-true))
 
-module _ (file placeTable lefts rights prefixes area : List ℕ) (n : ℕ) where
-  module _ (f : Facts file placeTable lefts rights prefixes area n) where
+module _ (T : Tables) (n : ℕ) where
+  open Tables T using (file, places as placeTable, lefts, rights, prefixes, area)
+
+  module _ (f : Facts T n) where
     row-facts : (c : ℕ) → c < n → RowIs file c
     row-facts c h = row-is file c (omega (arith, accepted file n (f .passed) .count))
 
@@ -116,18 +119,18 @@ module _ (file placeTable lefts rights prefixes area : List ℕ) (n : ℕ) where
     prefixes-ready = record { room = f .prefixes-room; shorter = λ c h. prefix-of n (rowSize file) c (getD prefixes c 0) (tests c h .0) }
 
   -- tables in form may be read
-  pub ready : formOf file placeTable lefts rights prefixes area ≡ Form.Rows n → Ready file placeTable lefts rights prefixes area n
+  pub ready : formOf T ≡ Form.Rows n → Ready T n
   ready e =
-      let f = form-facts file placeTable lefts rights prefixes area n e in
+      let f = form-facts T n e in
       record { places-ready = places-ready f; parts-ready = parts-ready f; prefixes-ready = prefixes-ready f; area-room = f .area-room }
 
   -- tables of an accepted file are in form if they hold its places and may be read
   pub in-form : checkOf file ≡ Rows n → take n placeTable ≡ places file → PartsReady file lefts rights n → PrefixesReady file prefixes n → 16384 ≤ length area
-      → formOf file placeTable lefts rights prefixes area ≡ Form.Rows n
+      → formOf T ≡ Form.Rows n
   unfolding rowInForm
   in-form p m s t w =
       let a = accepted file n p in
-      facts-form file placeTable lefts rights prefixes area n
+      facts-form T n
       (record {
         passed = p;
         places-room = omega (arith, length-take n placeTable, ap length m, a .count-places);

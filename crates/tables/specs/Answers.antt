@@ -4,6 +4,7 @@ use mathlib.Core.Bool.{cond}
 use Prim.Native.Nat.{ℕ}
 use lib.Dec.{ltb}
 use Rattle.causes.specs.declared.Cause.the-variants.{OutOfForm, UnknownCode}
+use Rattle.tables.specs.Tables.{Tables}
 use Rattle.tables.specs.declared.Form.{Form}
 use Rattle.tables.specs.declared.Form.the-variants as Form
 use Rattle.tables.specs.declared.Answer.{Answer}
@@ -15,12 +16,14 @@ unfoldable pub whenInForm : Form → (ℕ → Answer) → Answer
 whenInForm (Form.Rows n) answer = answer n
 whenInForm Form.Out answer = Refused OutOfForm
 
-module _ (file placeTable lefts rights prefixes area : List ℕ) where
+module _ (T : Tables) where
+  open Tables T using (file)
+
   -- `num_tokens`: n
   unfoldable pub numTokensOf : Answer
-  numTokensOf = whenInForm (formOf file placeTable lefts rights prefixes area) Number
+  numTokensOf = whenInForm (formOf T) Number
 
   -- `token_len`: the number of the row's bytes; a code not below n is refused (10, index 0)
   unfoldable pub tokenLenOf : ℕ → Answer
   tokenLenOf token =
-      whenInForm (formOf file placeTable lefts rights prefixes area) (λ (n : ℕ). cond (ltb token n) (Number (rowSize file token)) (Refused (UnknownCode 0)))
+      whenInForm (formOf T) (λ (n : ℕ). cond (ltb token n) (Number (rowSize file token)) (Refused (UnknownCode 0)))

@@ -9,6 +9,7 @@ use Rattle.causes.specs.declared.BuildAnswer.the-variants.{Rows, Refused}
 use Rattle.phrase_file.specs.Form.{places, rows}
 use Rattle.phrase_file.specs.Checks.{checkOf}
 use Rattle.placed_rows.specs.Rows.{none}
+use Rattle.tables.specs.Tables.{Tables}
 use Rattle.tables.specs.declared.Form.{Form}
 use Rattle.tables.specs.declared.Form.the-variants as Form
 
@@ -49,7 +50,9 @@ partsInForm size i l r = (eqb l i && (eqb r i && eqb (size i) 1)) || (ltb l i &&
 unfoldable pub rowInForm : ℕ → (ℕ → ℕ) → List ℕ → List ℕ → List ℕ → ℕ → Bool
 rowInForm n size lefts rights prefixes i = prefixInForm n size i (getD prefixes i 0) && partsInForm size i (getD lefts i 0) (getD rights i 0)
 
-module _ (file placeTable lefts rights prefixes area : List ℕ) where
+module _ (T : Tables) where
+  open Tables T using (file, places as placeTable, lefts, rights, prefixes, area)
+
   -- each table has at least n entries and the search area at least 16,384
   unfoldable pub largeEnough : Bool
   largeEnough =

@@ -1,3 +1,4 @@
+pub mod Tables
 pub mod InForm
 pub mod Ready
 pub mod Steps

@@ -6,6 +6,7 @@ use Prim.Native.Nat.{ℕ, _+_, _≤_, _<_}
 use lib.ListN.{length, getD}
 use Rattle.phrase_file.specs.Form.{rows}
 use Rattle.placed_rows.specs.Rows.{none, row, Placed}
+use Rattle.tables.specs.Tables.{Tables}
 
 -- two lower rows whose lengths add up
 pub record Lower (file : List ℕ) (c l r : ℕ) : Type 0 where
@@ -36,8 +37,8 @@ pub record PrefixesReady (file prefixes : List ℕ) (n : ℕ) : Type 0 where
       → (getD prefixes c 0 ≡ none) ⊎ ((getD prefixes c 0 < n) × (length (getD (rows file) (getD prefixes c 0) []) < length (getD (rows file) c [])))
 
 -- tables in form, n being the count of rows
-pub record Ready (file placeTable lefts rights prefixes area : List ℕ) (n : ℕ) : Type 0 where
-  pub places-ready : PlacesReady file placeTable n
-  pub parts-ready : PartsReady file lefts rights n
-  pub prefixes-ready : PrefixesReady file prefixes n
-  pub area-room : 16384 ≤ length area
+pub record Ready (T : Tables) (n : ℕ) : Type 0 where
+  pub places-ready : PlacesReady (T .file) (T .places) n
+  pub parts-ready : PartsReady (T .file) (T .lefts) (T .rights) n
+  pub prefixes-ready : PrefixesReady (T .file) (T .prefixes) n
+  pub area-room : 16384 ≤ length (T .area)

@@ -2,6 +2,7 @@
 ghost use mathlib.Core.Path.{_≡_};
 ghost use Prim.Native.Nat.{_<_};
 ghost use Rattle.placed_rows.specs.Texts.{Small};
+ghost use Rattle.tables.specs.Tables.{lent};
 ghost use Rattle.tables.specs.InForm.{allBelow, prefixInForm, partsInForm, rowInForm, formOf};
 ghost use Rattle.tables.specs.Answers.{numTokensOf, tokenLenOf};
 ghost use Rattle.tables.specs.Steps.{Passed, PlacesMatch, RowOf, Room, sized};
@@ -92,7 +93,8 @@ fn parts_in_form(sizes: &[u8; 4096], i: usize, l: u32, r: u32) -> bool
 // Whether prefix and parts of each row are in form.
 fn rows_fit(sizes: &[u8; 4096], lefts: &[u32], rights: &[u32], prefixes: &[u32], n: usize) -> bool
     requires { ⌜ Room n (now lefts) (now rights) (now prefixes) ⌝ }
-    ensures { λ r. ⌜ r ≡ allBelow n (rowInForm n (sized (now (sizes .entry))) (now (lefts .entry)) (now (rights .entry)) (now (prefixes .entry))) ⌝ }
+    ensures { λ r. ⌜ r ≡ allBelow n (rowInForm n (sized (now (sizes .entry))) (now (lefts .entry))
+        (now (rights .entry)) (now (prefixes .entry))) ⌝ }
 {
     let mut i: usize = 0;
     while i < n {
@@ -116,7 +118,7 @@ pub fn tables_in_form(
     prefixes: &[u32],
     area: &[u32],
 ) -> Form
-    ensures { λ r. ⌜ r ≡ formOf (now (file .entry)) (now (places .entry)) (now (lefts .entry)) (now (rights .entry)) (now (prefixes .entry)) (now (area .entry)) ⌝ }
+    ensures { λ r. ⌜ r ≡ formOf (lent file places lefts rights prefixes area) ⌝ }
 {
     let BuildAnswer::Rows(n) = phrase_file::check_file(file) else {
         return Form::Out;
@@ -155,7 +157,7 @@ pub fn num_tokens(
     prefixes: &[u32],
     area: &[u32],
 ) -> Answer
-    ensures { λ r. ⌜ r ≡ numTokensOf (now (file .entry)) (now (places .entry)) (now (lefts .entry)) (now (rights .entry)) (now (prefixes .entry)) (now (area .entry)) ⌝ }
+    ensures { λ r. ⌜ r ≡ numTokensOf (lent file places lefts rights prefixes area) ⌝ }
 {
     match tables_in_form(file, places, lefts, rights, prefixes, area) {
         Form::Rows(n) => Answer::Number(n),
@@ -173,7 +175,7 @@ pub fn token_len(
     area: &[u32],
     token: u32,
 ) -> Answer
-    ensures { λ r. ⌜ r ≡ tokenLenOf (now (file .entry)) (now (places .entry)) (now (lefts .entry)) (now (rights .entry)) (now (prefixes .entry)) (now (area .entry)) token ⌝ }
+    ensures { λ r. ⌜ r ≡ tokenLenOf (lent file places lefts rights prefixes area) token ⌝ }
 {
     let Form::Rows(n) = tables_in_form(file, places, lefts, rights, prefixes, area) else {
         return Answer::Refused(Cause::OutOfForm);

@@ -11,6 +11,7 @@ use lib.Seq.{getD-take, take-take}
 use Rattle.theory.specs.Dictionary.{Dictionary}
 use Rattle.theory.specs.Lists.{equal}
 use Rattle.theory.specs.Typing.{Side, inOrder, passesBeside, inForm}
+use Rattle.tables.specs.Tables.{Tables}
 use Rattle.tables.proofs.Sweeps.{all-same}
 use Rattle.built.specs.Built.{dictionaryOf}
 use Rattle.typing_core.specs.Refusals.{headOut}
@@ -48,9 +49,11 @@ module _ (states : List State) (len : ℕ) (bytes codes counts : List ℕ) (copi
   pub all-copied : headOut len (length states) ≡ false → Copied states len bytes codes counts
   all-copied h = subst (λ (k : ℕ). Copied states k bytes codes counts) (usable-in len (length states) h) copied
 
-  module _ (file placeTable lefts rights prefixes area : List ℕ) (side : Side) where
-    pub form-same : (fine : Bool) → FormOf file placeTable lefts rights prefixes area side len (length states) bytes codes counts fine
-        → FormOf file placeTable lefts rights prefixes area side len (length states) (bytesOf states) (codesOf states) (countsOf states) fine
+  module _ (T : Tables) (side : Side) where
+    open Tables T using (file)
+
+    pub form-same : (fine : Bool) → FormOf T side len (length states) bytes codes counts fine
+        → FormOf T side len (length states) (bytesOf states) (codesOf states) (countsOf states) fine
     form-same fine form = record {
       none-yet = form .none-yet;
       built = λ n b h. let all = all-copied h in form .built n b h

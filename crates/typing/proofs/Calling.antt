@@ -9,6 +9,7 @@ use lib.Seq.{getD-append-add, length-take-le}
 use Rattle.theory.proofs.Lists.{bool-cases}
 use Rattle.theory.specs.Typing.{Side, entryAt, codeAt, countAt}
 use Rattle.causes.specs.declared.Cause.{Cause}
+use Rattle.tables.specs.Tables.{Tables}
 use Rattle.tables.specs.InForm.{formOf}
 use Rattle.tables.specs.declared.Answer.{Answer}
 use Rattle.answers.specs.Answers.{answered}
@@ -40,30 +41,32 @@ ready len size k e = record {
   counts-long = length-replicate {A = ℕ} 4096 0;
 }
 
-module _ (file placeTable lefts rights prefixes area : List ℕ) (side : Side) (states : List State) (bytes codes counts : List ℕ) where
+module _ (T : Tables) (side : Side) (states : List State) (bytes codes counts : List ℕ) where
+  open Tables T using (file)
+
   pub token-counted : (len at k : ℕ) (r : Answer) → at ≡ len → k ≡ usableOf at (length states) → Copied states k bytes codes counts
-      → CountedColumns file placeTable lefts rights prefixes area side at (length states) bytes codes counts r
-      → TokenCounted file placeTable lefts rights prefixes area side len states r
+      → CountedColumns T side at (length states) bytes codes counts r
+      → TokenCounted T side len states r
   token-counted len at k r is usable copied counted =
       let all : Copied states (usableOf at (length states)) bytes codes counts = subst (λ (m : ℕ). Copied states m bytes codes counts) usable copied in
-      subst (λ (m : ℕ). TokenCounted file placeTable lefts rights prefixes area side m states r) is record {
+      subst (λ (m : ℕ). TokenCounted T side m states r) is record {
         fine = counted .fine;
-        form = form-same states at bytes codes counts all file placeTable lefts rights prefixes area side (counted .fine) (counted .form);
+        form = form-same states at bytes codes counts all T side (counted .fine) (counted .form);
         answer = counted .answer
-            ∙ answered-same (tokenCountRefusal (formOf file placeTable lefts rights prefixes area) at (length states) (counted .fine)) (lastCount counts at) (lastCount (countsOf states) at)
-            (λ o. last-same states at bytes codes counts all (counted-in (formOf file placeTable lefts rights prefixes area) at (length states) (counted .fine) o));
+            ∙ answered-same (tokenCountRefusal (formOf T) at (length states) (counted .fine)) (lastCount counts at) (lastCount (countsOf states) at)
+            (λ o. last-same states at bytes codes counts all (counted-in (formOf T) at (length states) (counted .fine) o));
       }
 
   module _ (typed bytes' codes' counts' : List ℕ) (len : ℕ) (r : Answer)
-      (done : ExtendedColumns file placeTable lefts rights prefixes area side len (length states) bytes codes counts typed r bytes' codes' counts') where
+      (done : ExtendedColumns T side len (length states) bytes codes counts typed r bytes' codes' counts') where
     abbrev refusal : Option Cause
-    refusal = extendRefusal (formOf file placeTable lefts rights prefixes area) len (length states) (done .fine) typed
+    refusal = extendRefusal (formOf T) len (length states) (done .fine) typed
 
     end-is : (end : ℕ) → end ≡ endAfter r len → end ≡ endAfter (answered refusal (len + length typed)) len
     end-is end e = e ∙ ap (λ (a : Answer). endAfter a len) (done .answer)
 
     fits : refusal ≡ none → Extends len (length states) typed
-    fits = extends (formOf file placeTable lefts rights prefixes area) len (length states) (done .fine) typed
+    fits = extends (formOf T) len (length states) (done .fine) typed
 
     -- the places that a call stores to
     pub places : (end : ℕ) → end ≡ endAfter r len → Places len end (length states)
@@ -79,14 +82,14 @@ module _ (file placeTable lefts rights prefixes area : List ℕ) (side : Side) (
     module _ (copied : Copied states (usableOf len (length states)) bytes codes counts) (end len' : ℕ) (states' : List State) (e : end ≡ endAfter r len) (l : len' ≡ end)
         (stored : Stored states len end bytes' codes' counts' states') where
       -- a record added
-      entry : (n : ℕ) → Built file placeTable lefts rights prefixes area n → refusal ≡ none → (k : ℕ) → k < length typed
+      entry : (n : ℕ) → Built T n → refusal ≡ none → (k : ℕ) → k < length typed
           → entryOf (getD states' (len + k) noState) ≡ entryAt (dictionaryOf file) side (take len (bytesOf states) ++ typed) (len + k)
       unfolding entryAt
       entry n b o k h =
           let so = fits o in
           let longer : end ≡ len + length typed = end-is end e ∙ end-given refusal (len + length typed) len o in
           let text : take len bytes ≡ take len (bytesOf states) = all-copied states len bytes codes counts copied (so .head-in) .bytes-are in
-          let is : Typed file placeTable lefts rights prefixes area side len (length states) bytes codes counts typed bytes' codes' counts' k = done .built n b o k h in
+          let is : Typed T side len (length states) bytes codes counts typed bytes' codes' counts' k = done .built n b o k h in
           let long : length (take len (bytesOf states)) ≡ len =
           length-take-le len (bytesOf states) (subst (λ (m : ℕ). len ≤ m) (sym (length-map states (λ (s : State). s .byte))) (head-fits len (length states) (so .head-in) .0)) in
           let byte : getD bytes' (len + k) 0 ≡ getD (take len (bytesOf states) ++ typed) (len + k) 0 =
@@ -97,10 +100,10 @@ module _ (file placeTable lefts rights prefixes area : List ℕ) (side : Side) (
           is .count ∙ ap (λ (s : List ℕ). countAt (dictionaryOf file) side (s ++ typed) (len + k)) text in
           ap entryOf (stored .stored (len + k) (omega arith) (omega (arith, h))) ∙ (λ j. record { byte = byte j; code = code j; count = count j })
 
-      pub extended-at : Extended file placeTable lefts rights prefixes area side len states typed r len' states'
+      pub extended-at : Extended T side len states typed r len' states'
       extended-at = record {
         fine = done .fine;
-        form = form-same states len bytes codes counts copied file placeTable lefts rights prefixes area side (done .fine) (done .form);
+        form = form-same states len bytes codes counts copied T side (done .fine) (done .form);
         answer = done .answer;
         refused = λ cause o.
             let same : end ≡ len = end-is end e ∙ end-refused refusal (len + length typed) len cause o in
@@ -115,9 +118,9 @@ module _ (file placeTable lefts rights prefixes area : List ℕ) (side : Side) (
 
   pub extended : (typed bytes' codes' counts' : List ℕ) (len at k end len' : ℕ) (r : Answer) (states' : List State) → at ≡ len → k ≡ usableOf at (length states)
       → Copied states k bytes codes counts
-      → ExtendedColumns file placeTable lefts rights prefixes area side at (length states) bytes codes counts typed r bytes' codes' counts'
+      → ExtendedColumns T side at (length states) bytes codes counts typed r bytes' codes' counts'
       → end ≡ endAfter r at → Stored states at end bytes' codes' counts' states' → len' ≡ end
-      → Extended file placeTable lefts rights prefixes area side len states typed r len' states'
+      → Extended T side len states typed r len' states'
   extended typed bytes' codes' counts' len at k end len' r states' is usable copied done e stored l =
-      subst (λ (m : ℕ). Extended file placeTable lefts rights prefixes area side m states typed r len' states') is
+      subst (λ (m : ℕ). Extended T side m states typed r len' states') is
       (extended-at typed bytes' codes' counts' at r done (subst (λ (m : ℕ). Copied states m bytes codes counts) usable copied) end len' states' e l stored)

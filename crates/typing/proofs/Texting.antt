@@ -20,6 +20,7 @@ use Rattle.theory.proofs.Decoding.{codes-fit}
 use Rattle.theory.proofs.Sides.{length-inOrder}
 use Rattle.theory.proofs.Typing.{trues-form, entryAt-take}
 use Rattle.causes.specs.declared.Cause.{Cause}
+use Rattle.tables.specs.Tables.{Tables}
 use Rattle.tables.specs.InForm.{formOf}
 use Rattle.answers.specs.Refusals.{isOut}
 use Rattle.tables.specs.declared.Form.{Form}
@@ -67,19 +68,21 @@ module _ (D : Dictionary) (side : Side) (text : List ℕ) (i len : ℕ) (states 
       long : length (take len (bytesOf states)) ≡ i
       long = length-take-le len (bytesOf states) (omega (arith, S .len-is, S .few, slice, length-map states (λ (s : State). s .byte))) ∙ S .len-is
 
-module _ (file placeTable lefts rights prefixes area : List ℕ) (n : ℕ) (B : Built file placeTable lefts rights prefixes area n) (side : Side) (text : List ℕ) where
+module _ (T : Tables) (n : ℕ) (B : Built T n) (side : Side) (text : List ℕ) where
+  open Tables T using (file)
+
   abbrev D : Dictionary
   D = dictionaryOf file
 
   abbrev form-is : Form
-  form-is = formOf file placeTable lefts rights prefixes area
+  form-is = formOf T
 
   -- a count is no more than the bytes
   count-small : (i : ℕ) → countAt D side text i ≤ suc i
   unfolding countAt
   count-small i =
       let t = inOrder side (take (suc i) text) in
-      let L = lawful-is file placeTable lefts rights prefixes area n B in
+      let L = lawful-is T n B in
       omega (arith, codes-fit D L (encode D t), ap length (encode-spells D L t), length-inOrder side (take (suc i) text), length-take (suc i) text)
 
   module _ (i len : ℕ) (states : List State) (octets : Octets text) (S : Standing D side text i len states) (slice : length states ≡ 4096) (text-fits : i ≤ length text) where
@@ -87,23 +90,23 @@ module _ (file placeTable lefts rights prefixes area : List ℕ) (n : ℕ) (B : 
     head-is = head-in len (length states) (omega (arith, S .len-is, S .few)) (omega (arith, S .len-is, S .few))
 
     -- true records are in form
-    fine-is : (fine : Bool) → FormOf file placeTable lefts rights prefixes area side len (length states) (bytesOf states) (codesOf states) (countsOf states) fine → fine ≡ true
+    fine-is : (fine : Bool) → FormOf T side len (length states) (bytesOf states) (codesOf states) (countsOf states) fine → fine ≡ true
     fine-is fine form =
         let same : take i (bytesOf states) ≡ take i text = subst (λ (k : ℕ). take k (bytesOf states) ≡ take i text) (S .len-is) (text-is D side text i len states S slice text-fits) in
         form .built n B head-is
         ∙ each-all (inForm D side (bytesOf states) (codesOf states) (countsOf states)) len
         (λ j h. let below : j < i = omega (arith, h, S .len-is) in
         form-at D side i (bytesOf states) (codesOf states) (countsOf states) text (codesOf states) (countsOf states) same refl refl j below
-        ∙ trues-form D side (lawful-is file placeTable lefts rights prefixes area n B) text (known file placeTable lefts rights prefixes area n B text octets) (codesOf states) (countsOf states)
+        ∙ trues-form D side (lawful-is T n B) text (known T n B text octets) (codesOf states) (countsOf states)
         i text-fits (λ k l. record { code = code-at D side text i len states S k l; count = count-at D side text i len states S k l }) j below)
 
     -- where there are records left, push and extend are not refused
-    passes : (typed : List ℕ) (fine : Bool) → FormOf file placeTable lefts rights prefixes area side len (length states) (bytesOf states) (codesOf states) (countsOf states) fine
+    passes : (typed : List ℕ) (fine : Bool) → FormOf T side len (length states) (bytesOf states) (codesOf states) (countsOf states) fine
         → i + length typed ≤ 4096 → extendRefusal form-is len (length states) fine typed ≡ none
     unfolding extendRefusal
     passes typed fine form h = rw (
       le-ltb 4096 (length typed) (omega (arith, h)),
-      in-form file placeTable lefts rights prefixes area n B,
+      in-form T n B,
       fine-is fine form,
       head-is,
       le-ltb (length states) (len + length typed) (omega (arith, S .len-is, h)),
@@ -111,14 +114,14 @@ module _ (file placeTable lefts rights prefixes area : List ℕ) (n : ℕ) (B : 
     )
 
     -- `token_count` gives the count of the text so far
-    count-is : (k : ℕ) → i ≡ suc k → (r : Answer) → TokenCounted file placeTable lefts rights prefixes area side len states r → r ≡ Number (countAt D side text k)
+    count-is : (k : ℕ) → i ≡ suc k → (r : Answer) → TokenCounted T side len states r → r ≡ Number (countAt D side text k)
     unfolding tokenCountRefusal
     count-is k e r c =
-        c .answer ∙ rw (in-form file placeTable lefts rights prefixes area n B, fine-is (c .fine) (c .form), head-is, S .len-is ∙ e)
+        c .answer ∙ rw (in-form T n B, fine-is (c .fine) (c .form), head-is, S .len-is ∙ e)
         (ap Number (count-at D side text i len states S k (omega (arith, e))))
 
     -- the records of the next bytes of the text
-    longer : (typed : List ℕ) (r : Answer) (len' : ℕ) (states' : List State) (X : Extended file placeTable lefts rights prefixes area side len states typed r len' states')
+    longer : (typed : List ℕ) (r : Answer) (len' : ℕ) (states' : List State) (X : Extended T side len states typed r len' states')
         → typed ≡ take (length typed) (drop i text) → i + length typed ≤ 4096 → Standing D side text (i + length typed) len' states'
     longer typed r len' states' X is room = record {
       len-is = X .longer free ∙ ap (λ (k : ℕ). k + length typed) (S .len-is);
@@ -148,20 +151,22 @@ next-byte : (text : List ℕ) (i : ℕ) → i < length text → getD text i 0 �
 next-byte text i h = sym (ap (take 1) (drop-cons text i 0 h))
 
 -- what holds after i bytes
-pub record Typing (file placeTable lefts rights prefixes area : List ℕ) (side : Side) (text counts₀ : List ℕ) (i len : ℕ) (states : List State) (counts : List ℕ) : Type 0 where
+pub record Typing (T : Tables) (side : Side) (text counts₀ : List ℕ) (i len : ℕ) (states : List State) (counts : List ℕ) : Type 0 where
   pub text-fits : i ≤ length text
   pub counts-fit : i ≤ length counts₀
   pub few : i ≤ 4096
   pub len-is : len ≡ i
-  pub out-of-form : isOut (formOf file placeTable lefts rights prefixes area) ≡ true → i ≡ 0
+  pub out-of-form : isOut (formOf T) ≡ true → i ≡ 0
   pub size-kept : length counts ≡ length counts₀
   pub slice : length states ≡ 4096
   pub beyond-kept : drop i counts ≡ drop i counts₀
-  pub standing : (n : ℕ) → Built file placeTable lefts rights prefixes area n → Standing (dictionaryOf file) side text i len states
-  pub counted : (n : ℕ) → Built file placeTable lefts rights prefixes area n → (j : ℕ) → j < i → getD counts j 0 ≡ countAt (dictionaryOf file) side text j
+  pub standing : (n : ℕ) → Built T n → Standing (dictionaryOf (T .file)) side text i len states
+  pub counted : (n : ℕ) → Built T n → (j : ℕ) → j < i → getD counts j 0 ≡ countAt (dictionaryOf (T .file)) side text j
 
-module _ (file placeTable lefts rights prefixes area : List ℕ) (side : Side) (text counts₀ : List ℕ) where
-  pub begins : (len : ℕ) (states : List State) → len ≡ 0 → length states ≡ 4096 → Typing file placeTable lefts rights prefixes area side text counts₀ 0 len states counts₀
+module _ (T : Tables) (side : Side) (text counts₀ : List ℕ) where
+  open Tables T using (file)
+
+  pub begins : (len : ℕ) (states : List State) → len ≡ 0 → length states ≡ 4096 → Typing T side text counts₀ 0 len states counts₀
   begins len states e slice = record {
     text-fits = omega arith;
     counts-fit = omega arith;
@@ -175,46 +180,46 @@ module _ (file placeTable lefts rights prefixes area : List ℕ) (side : Side) (
     counted = λ n B j h. absurd (omega (arith, h));
   }
 
-  module _ (octets : Octets text) (i len : ℕ) (states : List State) (counts : List ℕ) (T : Typing file placeTable lefts rights prefixes area side text counts₀ i len states counts) where
+  module _ (octets : Octets text) (i len : ℕ) (states : List State) (counts : List ℕ) (K : Typing T side text counts₀ i len states counts) where
     -- the end, where the number of bytes is what it has to be
-    pub ends : ((n : ℕ) → Built file placeTable lefts rights prefixes area n → i ≡ min (length text) (min (length counts₀) 4096))
-        → TextTyped file placeTable lefts rights prefixes area side text counts₀ i counts
-    ends e = record { at-most = omega (arith, T); out-of-form = T .out-of-form; size-kept = T .size-kept; beyond-kept = T .beyond-kept; typed = e; counted = T .counted }
+    pub ends : ((n : ℕ) → Built T n → i ≡ min (length text) (min (length counts₀) 4096))
+        → TextTyped T side text counts₀ i counts
+    ends e = record { at-most = omega (arith, K); out-of-form = K .out-of-form; size-kept = K .size-kept; beyond-kept = K .beyond-kept; typed = e; counted = K .counted }
 
     -- the text, or the room for counts, is at its end
-    pub ends-all : (length text ≤ i) ⊎ (length counts₀ ≤ i) → TextTyped file placeTable lefts rights prefixes area side text counts₀ i counts
-    ends-all o = ends (λ n B. let few = T .standing n B .few in ⊎-elim (λ h. omega (arith, T, few, h)) (λ h. omega (arith, T, few, h)) o)
+    pub ends-all : (length text ≤ i) ⊎ (length counts₀ ≤ i) → TextTyped T side text counts₀ i counts
+    ends-all o = ends (λ n B. let few = K .standing n B .few in ⊎-elim (λ h. omega (arith, K, few, h)) (λ h. omega (arith, K, few, h)) o)
 
-    module _ (b : ℕ) (r : Answer) (len' : ℕ) (states' : List State) (X : Extended file placeTable lefts rights prefixes area side len states (b ∷ []) r len' states') where
+    module _ (b : ℕ) (r : Answer) (len' : ℕ) (states' : List State) (X : Extended T side len states (b ∷ []) r len' states') where
       abbrev refusal : Option Cause
-      refusal = extendRefusal (formOf file placeTable lefts rights prefixes area) len (length states) (X .fine) (b ∷ [])
+      refusal = extendRefusal (formOf T) len (length states) (X .fine) (b ∷ [])
 
       -- no record is left
-      pub ends-full : endAfter r i ≡ i → TextTyped file placeTable lefts rights prefixes area side text counts₀ i counts
+      pub ends-full : endAfter r i ≡ i → TextTyped T side text counts₀ i counts
       ends-full e = ends (λ n B.
-          let S = T .standing n B in
+          let S = K .standing n B in
           ⊎-elim (λ (h : i < 4096). absurd (let
           more : endAfter r i ≡ len + 1 = ap (λ (a : Answer). endAfter a i) (X .answer)
           ∙ end-given refusal (len + 1) i
-          (passes file placeTable lefts rights prefixes area n B side text i len states octets S (T .slice) (T .text-fits) (b ∷ []) (X .fine) (X .form) (omega (arith, h)))
-          in omega (arith, e, more, S .len-is))) (λ h. omega (arith, T, S .few, h)) (lt-or-ge i 4096))
+          (passes T n B side text i len states octets S (K .slice) (K .text-fits) (b ∷ []) (X .fine) (X .form) (omega (arith, h)))
+          in omega (arith, e, more, S .len-is))) (λ h. omega (arith, K, S .few, h)) (lt-or-ge i 4096))
 
       -- one byte more, where the push was not refused
-      pub more : b ≡ getD text i 0 → i < length text → i < length counts₀ → (endAfter r i ≡ i → ⊥) → (q : Answer) → TokenCounted file placeTable lefts rights prefixes area side len' states' q
-          → (v : ℕ) → v ≡ min (endAfter q 0) 4294967295 → Typing file placeTable lefts rights prefixes area side text counts₀ (i + 1) len' states' (set counts i v)
+      pub more : b ≡ getD text i 0 → i < length text → i < length counts₀ → (endAfter r i ≡ i → ⊥) → (q : Answer) → TokenCounted T side len' states' q
+          → (v : ℕ) → v ≡ min (endAfter q 0) 4294967295 → Typing T side text counts₀ (i + 1) len' states' (set counts i v)
       more is within room new q counted v entry = record {
         text-fits = omega arith;
         counts-fit = omega arith;
-        few = omega (arith, fits .most-fits, T .len-is);
-        len-is = X .longer free ∙ ap (λ (k : ℕ). k + 1) (T .len-is);
-        out-of-form = λ o. absurd (true-false (sym o ∙ tables-in (formOf file placeTable lefts rights prefixes area) len (length states) (X .fine) (b ∷ []) free));
-        size-kept = length-set counts i v ∙ T .size-kept;
-        slice = X .size-kept ∙ T .slice;
-        beyond-kept = drop-set-lt (i + 1) counts i v (omega arith) ∙ sym (drop-drop 1 i counts) ∙ ap (drop 1) (T .beyond-kept) ∙ drop-drop 1 i counts₀;
+        few = omega (arith, fits .most-fits, K .len-is);
+        len-is = X .longer free ∙ ap (λ (k : ℕ). k + 1) (K .len-is);
+        out-of-form = λ o. absurd (true-false (sym o ∙ tables-in (formOf T) len (length states) (X .fine) (b ∷ []) free));
+        size-kept = length-set counts i v ∙ K .size-kept;
+        slice = X .size-kept ∙ K .slice;
+        beyond-kept = drop-set-lt (i + 1) counts i v (omega arith) ∙ sym (drop-drop 1 i counts) ∙ ap (drop 1) (K .beyond-kept) ∙ drop-drop 1 i counts₀;
         standing = stands;
         counted = λ n B j h. ⊎-elim
-            (λ e. subst (λ (k : ℕ). getD (set counts i v) k 0 ≡ countAt (dictionaryOf file) side text k) (sym e) (getD-set-same counts i v 0 (omega (arith, T .size-kept)) ∙ last n B))
-            (λ (l : j < i). getD-set-other counts i j v 0 (λ z. lt-irrefl i (subst (λ (k : ℕ). k < i) z l)) ∙ T .counted n B j l)
+            (λ e. subst (λ (k : ℕ). getD (set counts i v) k 0 ≡ countAt (dictionaryOf file) side text k) (sym e) (getD-set-same counts i v 0 (omega (arith, K .size-kept)) ∙ last n B))
+            (λ (l : j < i). getD-set-other counts i j v 0 (λ z. lt-irrefl i (subst (λ (k : ℕ). k < i) z l)) ∙ K .counted n B j l)
             (eq-or-lt-of-le (let low : j ≤ i = omega (arith, h) in low));
       }
         where
@@ -225,17 +230,17 @@ module _ (file placeTable lefts rights prefixes area : List ℕ) (side : Side) (
             go (some cause) e = absurd (new (ap (λ (a : Answer). endAfter a i) (X .answer) ∙ end-refused refusal (len + 1) i cause e))
 
           fits : Extends len (length states) (b ∷ [])
-          fits = extends (formOf file placeTable lefts rights prefixes area) len (length states) (X .fine) (b ∷ []) free
+          fits = extends (formOf T) len (length states) (X .fine) (b ∷ []) free
 
-          stands : (n : ℕ) → Built file placeTable lefts rights prefixes area n → Standing (dictionaryOf file) side text (i + 1) len' states'
+          stands : (n : ℕ) → Built T n → Standing (dictionaryOf file) side text (i + 1) len' states'
           stands n B =
               let one : b ∷ [] ≡ take 1 (drop i text) = (λ j. is j ∷ []) ∙ next-byte text i within in
-              longer file placeTable lefts rights prefixes area n B side text i len states octets (T .standing n B) (T .slice) (T .text-fits) (b ∷ []) r len' states' X one (omega (arith, fits .most-fits, T .len-is))
+              longer T n B side text i len states octets (K .standing n B) (K .slice) (K .text-fits) (b ∷ []) r len' states' X one (omega (arith, fits .most-fits, K .len-is))
 
-          last : (n : ℕ) → Built file placeTable lefts rights prefixes area n → v ≡ countAt (dictionaryOf file) side text i
+          last : (n : ℕ) → Built T n → v ≡ countAt (dictionaryOf file) side text i
           last n B =
               let S = stands n B in
               let few = S .few in
-              let is-count = count-is file placeTable lefts rights prefixes area n B side text (i + 1) len' states' octets S (X .size-kept ∙ T .slice) (omega arith) i (add-one i) q counted in
+              let is-count = count-is T n B side text (i + 1) len' states' octets S (X .size-kept ∙ K .slice) (omega arith) i (add-one i) q counted in
               let end : endAfter q 0 ≡ countAt (dictionaryOf file) side text i = ap (λ (a : Answer). endAfter a 0) is-count in
-              omega (arith, entry, end, count-small file placeTable lefts rights prefixes area n B side text i)
+              omega (arith, entry, end, count-small T n B side text i)

@@ -7,6 +7,7 @@ use Prim.Native.Nat.{ℕ, _+_, _<_, min}
 use lib.ListN.{length, getD, take, drop}
 use Rattle.theory.specs.Typing as Typing
 use Rattle.causes.specs.declared.Cause.{Cause}
+use Rattle.tables.specs.Tables.{Tables}
 use Rattle.tables.specs.InForm.{formOf}
 use Rattle.tables.specs.declared.Answer.{Answer}
 use Rattle.answers.specs.Answers.{answered}
@@ -16,28 +17,30 @@ use Rattle.typing_core.specs.Columns.{lastCount, FormOf}
 use Rattle.typing.specs.declared.State.{State}
 use Rattle.typing.specs.Records.{noState, entryOf, bytesOf, codesOf, countsOf}
 
-module _ (file placeTable lefts rights prefixes area : List ℕ) (side : Typing.Side) where
+module _ (T : Tables) (side : Typing.Side) where
+  open Tables T using (file)
+
   -- push (with the one byte as `typed`) and extend: the answer is the new length. Only the records added and the head's length are written; over tables that a build
   -- left the records added are those of the bytes typed so far. A refusal changes nothing
   pub record Extended (len : ℕ) (states : List State) (typed : List ℕ) (r : Answer) (len' : ℕ) (states' : List State) : Type 0 where
     pub fine : Bool
-    pub form : FormOf file placeTable lefts rights prefixes area side len (length states) (bytesOf states) (codesOf states) (countsOf states) fine
-    pub answer : r ≡ answered (extendRefusal (formOf file placeTable lefts rights prefixes area) len (length states) fine typed) (len + length typed)
-    pub refused : (cause : Cause) → extendRefusal (formOf file placeTable lefts rights prefixes area) len (length states) fine typed ≡ some cause
+    pub form : FormOf T side len (length states) (bytesOf states) (codesOf states) (countsOf states) fine
+    pub answer : r ≡ answered (extendRefusal (formOf T) len (length states) fine typed) (len + length typed)
+    pub refused : (cause : Cause) → extendRefusal (formOf T) len (length states) fine typed ≡ some cause
         → (len' ≡ len) × (states' ≡ states)
-    pub longer : extendRefusal (formOf file placeTable lefts rights prefixes area) len (length states) fine typed ≡ none → len' ≡ len + length typed
+    pub longer : extendRefusal (formOf T) len (length states) fine typed ≡ none → len' ≡ len + length typed
     pub size-kept : length states' ≡ length states
     pub before-kept : take len states' ≡ take len states
     pub beyond-kept : drop len' states' ≡ drop len' states
-    pub built : (n : ℕ) → Built file placeTable lefts rights prefixes area n
-        → extendRefusal (formOf file placeTable lefts rights prefixes area) len (length states) fine typed ≡ none → (k : ℕ) → k < length typed
+    pub built : (n : ℕ) → Built T n
+        → extendRefusal (formOf T) len (length states) fine typed ≡ none → (k : ℕ) → k < length typed
         → entryOf (getD states' (len + k) noState) ≡ Typing.entryAt (dictionaryOf file) side (take len (bytesOf states) ++ typed) (len + k)
 
   -- `token_count`: the last record's count, 0 at length 0
   pub record TokenCounted (len : ℕ) (states : List State) (r : Answer) : Type 0 where
     pub fine : Bool
-    pub form : FormOf file placeTable lefts rights prefixes area side len (length states) (bytesOf states) (codesOf states) (countsOf states) fine
-    pub answer : r ≡ answered (tokenCountRefusal (formOf file placeTable lefts rights prefixes area) len (length states) fine) (lastCount (countsOf states) len)
+    pub form : FormOf T side len (length states) (bytesOf states) (codesOf states) (countsOf states) fine
+    pub answer : r ≡ answered (tokenCountRefusal (formOf T) len (length states) fine) (lastCount (countsOf states) len)
 
 -- truncate: the head's length, if it is in form, becomes the lesser of it and what is to be kept, and that is the answer. `size` is the number of records of the slice
 pub record Truncated (len size keep : ℕ) (r : Answer) (len' : ℕ) : Type 0 where

@@ -10,6 +10,7 @@ ghost use Rattle.typing_core.specs.Refusals.{headOut, truncateRefusal};
 ghost use Rattle.typing.specs.Steps.{usableOf, endAfter, stateOf, ColumnsReady, Copied, Places, Stored};
 ghost use Rattle.typing.specs.Calls.{Extended, TokenCounted, Truncated};
 ghost use Rattle.typing.specs.Text.{TextTyped};
+ghost use Rattle.tables.specs.Tables.{lent, before, after};
 use causes::Cause;
 use tables::Answer;
 use typing_core::Side;
@@ -138,7 +139,8 @@ fn store_all(
     counts: &[u32; 4096],
 )
     requires { ⌜ Places from end (length (now states)) ⌝ }
-    ensures { λ _. ⌜ Stored (now (states .entry)) from end (now (bytes .entry)) (now (codes .entry)) (now (counts .entry)) (now (states .exit)) ⌝ }
+    ensures { λ _. ⌜ Stored (now (states .entry)) from end (now (bytes .entry)) (now (codes .entry))
+        (now (counts .entry)) (now (states .exit)) ⌝ }
 {
     let mut i = from;
     while i < end {
@@ -149,7 +151,8 @@ fn store_all(
 
 // The head's length becomes the lesser of it and what is to be kept; the slice is asked for its number of records alone.
 pub fn truncate(head: &mut Head, states: &[State], keep: usize) -> Answer
-    ensures { λ r. ⌜ Truncated (now (head .entry) .len) (length (now (states .entry))) keep r (now (head .exit) .len) ⌝ }
+    ensures { λ r. ⌜ Truncated (now (head .entry) .len) (length (now (states .entry))) keep r
+        (now (head .exit) .len) ⌝ }
 {
     let h = *head;
     let len = length_of_head(h);
@@ -170,7 +173,8 @@ pub fn token_count(
     head: &Head,
     states: &[State],
 ) -> Answer
-    ensures { λ r. ⌜ TokenCounted (now (file .entry)) (now (places .entry)) (now (lefts .entry)) (now (rights .entry)) (now (prefixes .entry)) (now (area .entry)) (sideOf side) (now (head .entry) .len) (now (states .entry)) r ⌝ }
+    ensures { λ r. ⌜ TokenCounted (lent file places lefts rights prefixes area)
+        (sideOf side) (now (head .entry) .len) (before states) r ⌝ }
 {
     let h = *head;
     let len = length_of_head(h);
@@ -214,7 +218,9 @@ pub fn extend(
     states: &mut [State],
     typed: &[u8],
 ) -> Answer
-    ensures { λ r. ⌜ Extended (now (file .entry)) (now (places .entry)) (now (lefts .entry)) (now (rights .entry)) (now (prefixes .entry)) (now (area .entry)) (sideOf side) (now (head .entry) .len) (now (states .entry)) (now (typed .entry)) r (now (head .exit) .len) (now (states .exit)) ⌝ }
+    ensures { λ r. ⌜ Extended (lent file places lefts rights prefixes area)
+        (sideOf side) (now (head .entry) .len) (before states) (before typed) r (now (head .exit) .len)
+        (after states) ⌝ }
 {
     let h = *head;
     let len = length_of_head(h);
@@ -263,7 +269,8 @@ pub fn push(
     states: &mut [State],
     byte: u8,
 ) -> Answer
-    ensures { λ r. ⌜ Extended (now (file .entry)) (now (places .entry)) (now (lefts .entry)) (now (rights .entry)) (now (prefixes .entry)) (now (area .entry)) (sideOf side) (now (head .entry) .len) (now (states .entry)) (byte ∷ []) r (now (head .exit) .len) (now (states .exit)) ⌝ }
+    ensures { λ r. ⌜ Extended (lent file places lefts rights prefixes area)
+        (sideOf side) (now (head .entry) .len) (before states) (byte ∷ []) r (now (head .exit) .len) (after states) ⌝ }
 {
     let typed: [u8; 1] = [byte];
     extend(
@@ -303,7 +310,8 @@ pub fn type_text(
     text: &[u8],
     counts: &mut [u32],
 ) -> usize
-    ensures { λ r. ⌜ TextTyped (now (file .entry)) (now (places .entry)) (now (lefts .entry)) (now (rights .entry)) (now (prefixes .entry)) (now (area .entry)) (sideOf side) (now (text .entry)) (now (counts .entry)) r (now (counts .exit)) ⌝ }
+    ensures { λ r. ⌜ TextTyped (lent file places lefts rights prefixes area)
+        (sideOf side) (before text) (before counts) r (after counts) ⌝ }
 {
     let mut states: [State; 4096] = [state_from(0, 0, 0); 4096];
     let mut head = head_with(0);

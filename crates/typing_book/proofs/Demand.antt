@@ -13,13 +13,16 @@ use Rattle.typing_book.specs.Run.{Lent, Event, OctetCalls, Run, AsTheBoo
 use Rattle.typing_book.proofs.Texts.{record-is}
 use Rattle.typing_book.proofs.Standing.{Standing}
 use Rattle.typing_book.proofs.Turns.{Turned, turn}
+use Rattle.tables.specs.Tables.{Tables}
 
-module _ (file placeTable lefts rights prefixes area : List ℕ) (n : ℕ) (B : Built file placeTable lefts rights prefixes area n) (side : Side) where
+module _ (T : Tables) (n : ℕ) (B : Built T n) (side : Side) where
+  open Tables T using (file)
+
   abbrev D : Dictionary
   D = dictionaryOf file
 
   as-the-book : (size : ℕ) (s : List ℕ) (m : Lent) (e : Event) → Turned D side size s m (e .call) (e .answer) (e .after)
-      → AsTheBook file placeTable lefts rights prefixes area side (inOrder side s) size m e
+      → AsTheBook T side (inOrder side s) size m e
   as-the-book size s m e t = record {
     answer = t .answer;
     len = t .standing .len ∙ same-length;
@@ -34,22 +37,22 @@ module _ (file placeTable lefts rights prefixes area : List ℕ) (n : ℕ) (B : 
       same-length = sym (length-inOrder side (t .text)) ∙ ap length (t .book)
 
   all-as-the-book : (size : ℕ) (s : List ℕ) (m : Lent) → Standing D side size m s → (events : List Event) → OctetCalls events
-      → Run file placeTable lefts rights prefixes area side m events → AllAsTheBook file placeTable lefts rights prefixes area side (inOrder side s) size m events
+      → Run T side m events → AllAsTheBook T side (inOrder side s) size m events
   all-as-the-book size s m S [] o r = refl
   all-as-the-book size s m S (e ∷ es) o r =
-      let t = turn file placeTable lefts rights prefixes area n B side size m s S (e .answer) (e .after) (e .call) (o .0) (r .0) in (
+      let t = turn T n B side size m s S (e .answer) (e .after) (e .call) (o .0) (r .0) in (
         as-the-book size s m e t,
-        subst (λ (b : List ℕ). AllAsTheBook file placeTable lefts rights prefixes area side b size (e .after) es) (t .book)
+        subst (λ (b : List ℕ). AllAsTheBook T side b size (e .after) es) (t .book)
             (all-as-the-book size (t .text) (e .after) (t .standing) es (o .1) (r .1)),
       )
 
 -- over the file and tables of one build that accepted the file, from length 0 over a slice of any size and content, a list of calls goes as the typing book says
-pub the-typing-book : (file placeTable lefts rights prefixes area : List ℕ) (n : ℕ) → Built file placeTable lefts rights prefixes area n
+pub the-typing-book : (T : Tables) (n : ℕ) → Built T n
     → (side : Side) → (m : Lent) → m .len ≡ 0 → (events : List Event) → OctetCalls events
-    → Run file placeTable lefts rights prefixes area side m events → AllAsTheBook file placeTable lefts rights prefixes area side [] (length (m .states)) m events
-the-typing-book file placeTable lefts rights prefixes area n B side m e events o r =
-    subst (λ (b : List ℕ). AllAsTheBook file placeTable lefts rights prefixes area side b (length (m .states)) m events) (inOrder-nil side)
-    (all-as-the-book file placeTable lefts rights prefixes area n B side (length (m .states)) [] m start events o r)
+    → Run T side m events → AllAsTheBook T side [] (length (m .states)) m events
+the-typing-book T n B side m e events o r =
+    subst (λ (b : List ℕ). AllAsTheBook T side b (length (m .states)) m events) (inOrder-nil side)
+    (all-as-the-book T n B side (length (m .states)) [] m start events o r)
   where
-    start : Standing (dictionaryOf file) side (length (m .states)) m []
+    start : Standing (dictionaryOf (T .file)) side (length (m .states)) m []
     start = record { octets = tt; few = omega arith; fits = omega arith; len = e; size-is = refl; records = λ i h. absurd (omega arith) }

@@ -17,6 +17,7 @@ use Rattle.theory.proofs.Encode.{encode-nil}
 use Rattle.theory.proofs.Sides.{inOrder-nil}
 use Rattle.theory.proofs.Typing.{TrueAt, trues-form, countAt-last}
 use Rattle.causes.specs.declared.Cause.the-variants.{TooLong, Full}
+use Rattle.tables.specs.Tables.{Tables}
 use Rattle.tables.specs.InForm.{formOf, allBelow}
 use Rattle.tables.proofs.Sweeps.{each-all}
 use Rattle.answers.specs.Refusals.{when, over}
@@ -88,8 +89,10 @@ module _ (D : Dictionary) (side : Side) (size : ℕ) (m : Lent) (s : List ℕ) (
   truncate-passes = rw head-is
 
 -- over tables that a build left
-module _ (file placeTable lefts rights prefixes area : List ℕ) (n : ℕ) (B : Built file placeTable lefts rights prefixes area n)
-    (side : Side) (size : ℕ) (m : Lent) (s : List ℕ) (S : Standing (dictionaryOf file) side size m s) where
+module _ (T : Tables) (n : ℕ) (B : Built T n)
+    (side : Side) (size : ℕ) (m : Lent) (s : List ℕ) (S : Standing (dictionaryOf (T .file)) side size m s) where
+  open Tables T using (file)
+
   abbrev D : Dictionary
   D = dictionaryOf file
 
@@ -106,24 +109,24 @@ module _ (file placeTable lefts rights prefixes area : List ℕ) (n : ℕ) (B : 
       each : (i : ℕ) → i < m .len → inForm D side (bytesOf (m .states)) (codesOf (m .states)) (countsOf (m .states)) i ≡ true
       each i h =
           same-form D side (bytesOf (m .states)) s (codesOf (m .states)) (countsOf (m .states)) i (up-to i h)
-          ∙ trues-form D side (lawful-is file placeTable lefts rights prefixes area n B) s (known file placeTable lefts rights prefixes area n B s (S .octets))
+          ∙ trues-form D side (lawful-is T n B) s (known T n B s (S .octets))
           (codesOf (m .states)) (countsOf (m .states)) (length s) (omega arith) true-at i (omega (arith, S .len))
 
   module _ (fine : Bool)
-      (form : FormOf file placeTable lefts rights prefixes area side (m .len) (length (m .states)) (bytesOf (m .states)) (codesOf (m .states)) (countsOf (m .states)) fine) where
+      (form : FormOf T side (m .len) (length (m .states)) (bytesOf (m .states)) (codesOf (m .states)) (countsOf (m .states)) fine) where
     is-fine : fine ≡ true
     is-fine = form .built n B (head-is D side size m s S) ∙ records-in
 
     -- push and extend are refused by 9 and 12 alone
-    pub extend-by-length : (typed : List ℕ) → extendRefusal (formOf file placeTable lefts rights prefixes area) (m .len) (length (m .states)) fine typed
+    pub extend-by-length : (typed : List ℕ) → extendRefusal (formOf T) (m .len) (length (m .states)) fine typed
         ≡ when (over typed) TooLong (when (full (length s) size typed) (Full (length s)) none)
     unfolding extendRefusal
-    extend-by-length typed = rw (in-form file placeTable lefts rights prefixes area n B, is-fine, head-is D side size m s S, S .len, S .size-is)
+    extend-by-length typed = rw (in-form T n B, is-fine, head-is D side size m s S, S .len, S .size-is)
 
     -- `token_count` is not refused
-    pub token-count-passes : tokenCountRefusal (formOf file placeTable lefts rights prefixes area) (m .len) (length (m .states)) fine ≡ none
+    pub token-count-passes : tokenCountRefusal (formOf T) (m .len) (length (m .states)) fine ≡ none
     unfolding tokenCountRefusal
-    token-count-passes = rw (in-form file placeTable lefts rights prefixes area n B, is-fine, head-is D side size m s S)
+    token-count-passes = rw (in-form T n B, is-fine, head-is D side size m s S)
 
   -- the last record's count is the number of codes of the text
   pub last-count : lastCount (countsOf (m .states)) (m .len) ≡ length (encode D (inOrder side s))
@@ -134,5 +137,5 @@ module _ (file placeTable lefts rights prefixes area : List ℕ) (n : ℕ) (B : 
       empty (b ∷ t) e = absurd (omega arith)
 
       go : (k : ℕ) → length s ≡ k → lastCount (countsOf (m .states)) k ≡ length (encode D (inOrder side s))
-      go zero e = rw (empty s e, inOrder-nil side, encode-nil D (lawful-is file placeTable lefts rights prefixes area n B))
+      go zero e = rw (empty s e, inOrder-nil side, encode-nil D (lawful-is T n B))
       go (suc i) e = count-at D side size m s S i (omega arith) ∙ countAt-last D side s i e

@@ -17,6 +17,7 @@ use Rattle.theory.proofs.Sides.{length-inOrder}
 use Rattle.theory.proofs.Typing.{entryAt-append, entryAt-take}
 use Rattle.causes.specs.declared.Cause.{Cause}
 use Rattle.causes.specs.declared.Cause.the-variants.{TooLong, Full}
+use Rattle.tables.specs.Tables.{Tables}
 use Rattle.tables.specs.InForm.{formOf}
 use Rattle.tables.specs.declared.Answer.{Answer}
 use Rattle.answers.specs.Answers.{answered}
@@ -57,8 +58,10 @@ pub record Turned (D : Dictionary) (side : Side) (size : ℕ) (s : List ℕ) (m 
   pub answer : r ≡ bookAnswer D side size (inOrder side s) call
   pub beyond : drop (m' .len) (m' .states) ≡ drop (m' .len) (m .states)
 
-module _ (file placeTable lefts rights prefixes area : List ℕ) (n : ℕ) (B : Built file placeTable lefts rights prefixes area n)
-    (side : Side) (size : ℕ) (m : Lent) (s : List ℕ) (S : Standing (dictionaryOf file) side size m s) (r : Answer) (m' : Lent) where
+module _ (T : Tables) (n : ℕ) (B : Built T n)
+    (side : Side) (size : ℕ) (m : Lent) (s : List ℕ) (S : Standing (dictionaryOf (T .file)) side size m s) (r : Answer) (m' : Lent) where
+  open Tables T using (file)
+
   abbrev D : Dictionary
   D = dictionaryOf file
 
@@ -66,12 +69,12 @@ module _ (file placeTable lefts rights prefixes area : List ℕ) (n : ℕ) (B : 
   book = inOrder side s
 
   -- push, as extend by its one byte, and extend
-  module _ (typed : List ℕ) (o : Octets typed) (X : Extended file placeTable lefts rights prefixes area side (m .len) (m .states) typed r (m' .len) (m' .states)) where
+  module _ (typed : List ℕ) (o : Octets typed) (X : Extended T side (m .len) (m .states) typed r (m' .len) (m' .states)) where
     abbrev refusal : Option Cause
-    refusal = extendRefusal (formOf file placeTable lefts rights prefixes area) (m .len) (length (m .states)) (X .fine) typed
+    refusal = extendRefusal (formOf T) (m .len) (length (m .states)) (X .fine) typed
 
     by-book : refusal ≡ bookRefusal size book (extend typed)
-    by-book = extend-by-length file placeTable lefts rights prefixes area n B side size m s S (X .fine) (X .form) typed
+    by-book = extend-by-length T n B side size m s S (X .fine) (X .form) typed
         ∙ ap (λ (k : ℕ). when (over typed) TooLong (when (full k size typed) (Full k) none)) (sym (length-inOrder side s))
 
     longer : m .len + length typed ≡ length (turned side book (extend typed))
@@ -148,18 +151,18 @@ module _ (file placeTable lefts rights prefixes area : List ℕ) (n : ℕ) (B : 
 
   truncate-turned : (k : ℕ) → Truncated (m .len) (length (m .states)) k r (m' .len) → m' .states ≡ m .states → Turned D side size s m (truncate k) r m'
   unfolding bookAfter bookAnswer
-  truncate-turned k T e = record {
+  truncate-turned k K e = record {
     text = take k s;
     book = sym (kept-is side k s);
     standing = record {
       octets = octets-take k s (S .octets);
       few = omega (arith, length-take k s, S .few);
       fits = omega (arith, length-take k s, S .fits);
-      len = omega (arith, T .shorter passes, S .len, length-take k s);
+      len = omega (arith, K .shorter passes, S .len, length-take k s);
       size-is = ap length e ∙ S .size-is;
       records = λ i h. ap (λ (l : List State). entryOf (getD l i noState)) e ∙ S .records i (omega (arith, length-take k s)) ∙ sym (entryAt-take D side s k i (omega (arith, length-take k s)));
     };
-    answer = T .answer ∙ same-answer passes kept-length;
+    answer = K .answer ∙ same-answer passes kept-length;
     beyond = ap (drop (m' .len)) e;
   }
     where
@@ -169,21 +172,21 @@ module _ (file placeTable lefts rights prefixes area : List ℕ) (n : ℕ) (B : 
       kept-length : min (m .len) k ≡ length (kept side k book)
       kept-length = omega (arith, ap length (kept-is side k s), length-inOrder side (take k s), length-take k s, S .len)
 
-  token-count-turned : TokenCounted file placeTable lefts rights prefixes area side (m .len) (m .states) r → m' ≡ m → Turned D side size s m tokenCount r m'
+  token-count-turned : TokenCounted T side (m .len) (m .states) r → m' ≡ m → Turned D side size s m tokenCount r m'
   unfolding bookAfter bookAnswer
-  token-count-turned T e = record {
+  token-count-turned K e = record {
     text = s;
     book = refl;
     standing = rw e S;
-    answer = T .answer ∙ same-answer passes (last-count file placeTable lefts rights prefixes area n B side size m s S);
+    answer = K .answer ∙ same-answer passes (last-count T n B side size m s S);
     beyond = rw e;
   }
     where
-      passes : tokenCountRefusal (formOf file placeTable lefts rights prefixes area) (m .len) (length (m .states)) (T .fine) ≡ none
-      passes = token-count-passes file placeTable lefts rights prefixes area n B side size m s S (T .fine) (T .form)
+      passes : tokenCountRefusal (formOf T) (m .len) (length (m .states)) (K .fine) ≡ none
+      passes = token-count-passes T n B side size m s S (K .fine) (K .form)
 
   -- each call, by what its contract ensures
-  pub turn : (call : Call) → OctetCall call → Ensured file placeTable lefts rights prefixes area side call m r m' → Turned D side size s m call r m'
+  pub turn : (call : Call) → OctetCall call → Ensured T side call m r m' → Turned D side size s m call r m'
   unfolding bookAfter bookAnswer
   turn (push byte) o X = let t = extend-turned (byte ∷ []) o X in record { text = t .text; book = t .book; standing = t .standing; answer = t .answer; beyond = t .beyond }
   turn (extend bytes) o X = extend-turned bytes o X

@@ -5,6 +5,7 @@ use Prim.Native.Nat.{ℕ, _<_}
 use lib.ListN.{length, getD, drop}
 use Rattle.theory.specs.Dictionary.{Octets}
 use Rattle.theory.specs.Typing.{Side}
+use Rattle.tables.specs.Tables.{Tables}
 use Rattle.tables.specs.declared.Answer.{Answer}
 use Rattle.built.specs.Built.{dictionaryOf}
 use Rattle.typing.specs.declared.State.{State}
@@ -34,13 +35,15 @@ abbrev pub OctetCalls : List Event → Type 0
 OctetCalls [] = Octets []
 OctetCalls (e ∷ es) = OctetCall (e .call) × OctetCalls es
 
-module _ (file placeTable lefts rights prefixes area : List ℕ) (side : Side) where
+module _ (T : Tables) (side : Side) where
+  open Tables T using (file)
+
   -- what the call's contract ensures
   abbrev pub Ensured : Call → Lent → Answer → Lent → Type 0
-  Ensured (push byte) m r m' = Extended file placeTable lefts rights prefixes area side (m .len) (m .states) (byte ∷ []) r (m' .len) (m' .states)
-  Ensured (extend bytes) m r m' = Extended file placeTable lefts rights prefixes area side (m .len) (m .states) bytes r (m' .len) (m' .states)
+  Ensured (push byte) m r m' = Extended T side (m .len) (m .states) (byte ∷ []) r (m' .len) (m' .states)
+  Ensured (extend bytes) m r m' = Extended T side (m .len) (m .states) bytes r (m' .len) (m' .states)
   Ensured (truncate k) m r m' = Truncated (m .len) (length (m .states)) k r (m' .len) × (m' .states ≡ m .states)
-  Ensured tokenCount m r m' = TokenCounted file placeTable lefts rights prefixes area side (m .len) (m .states) r × (m' ≡ m)
+  Ensured tokenCount m r m' = TokenCounted T side (m .len) (m .states) r × (m' ≡ m)
 
   -- each call, after a refused one too, gets the slice and the head as the call before left them
   abbrev pub Run : Lent → List Event → Type 0

@@ -13,6 +13,7 @@ use Rattle.phrase_file.proofs.Checks.{accepted}
 use Rattle.theory.specs.Dictionary.{Octets}
 use Rattle.theory.specs.Typing.{Side, inForm}
 use Rattle.theory.proofs.Typing.{TrueAt, forms-true}
+use Rattle.tables.specs.Tables.{Tables}
 use Rattle.tables.specs.declared.Form.{Form}
 use Rattle.tables.specs.declared.Form.the-variants.{Rows, Out}
 use Rattle.tables.specs.declared.Answer.the-variants.{Number, Refused}
@@ -80,72 +81,74 @@ last-is counts zero h = absurd (h refl)
 last-is counts (suc i) h = let z : suc i - 1 ≡ i = omega arith in rw z
 
 -- the count of rows is the same for everybody
-same-build : (file places lefts rights prefixes area : List ℕ) (n m : ℕ) → PlacesReady file places n → Built file places lefts rights prefixes area m → Built file places lefts rights prefixes area n
-same-build file places lefts rights prefixes area n m P B =
-    subst (λ (x : ℕ). Built file places lefts rights prefixes area x) (accepted file m (B .passed) .count ∙ sym (P .count)) B
+same-build : (T : Tables) (n m : ℕ) → PlacesReady (T .file) (T .places) n → Built T m → Built T n
+same-build T n m P B =
+    subst (λ (x : ℕ). Built T x) (accepted (T .file) m (B .passed) .count ∙ sym (P .count)) B
 
 -- the records may be read
-pub checked-records-ready : (file places lefts rights prefixes area : List ℕ) (len : ℕ) (bytes codes counts reading₀ reading : List ℕ) (n : ℕ)
-    → formOf file places lefts rights prefixes area ≡ Rows n → Sizes bytes codes counts reading₀ → Mirrored bytes reading len
-    → RecordsReady file places lefts rights area n bytes reading codes counts len
-checked-records-ready file places lefts rights prefixes area len bytes codes counts reading₀ reading n e S M = record {
-  in-form = parts-in-form file places lefts rights prefixes area n (ready file places lefts rights prefixes area n e);
+pub checked-records-ready : (T : Tables) (len : ℕ) (bytes codes counts reading₀ reading : List ℕ) (n : ℕ)
+    → formOf T ≡ Rows n → Sizes bytes codes counts reading₀ → Mirrored bytes reading len
+    → RecordsReady (T .file) (T .places) (T .lefts) (T .rights) (T .area) n bytes reading codes counts len
+checked-records-ready T len bytes codes counts reading₀ reading n e S M = record {
+  in-form = parts-in-form T n (ready T n e);
   mirrored = M;
   codes-size = S .codes-size;
   counts-size = S .counts-size;
 }
 
-module _ (file places lefts rights prefixes area : List ℕ) (side : Side) (len size : ℕ) (bytes codes counts : List ℕ) where
+module _ (T : Tables) (side : Side) (len size : ℕ) (bytes codes counts : List ℕ) where
+  open Tables T using (file, places, lefts, rights, prefixes, area)
+
   abbrev form : Form
-  form = formOf file places lefts rights prefixes area
+  form = formOf T
 
   abbrev formed : Bool
   formed = allBelow len (inForm (dictionaryOf file) side bytes codes counts)
 
   -- where the records are not looked at, the definition says whether they are in form
-  unread : FormOf file places lefts rights prefixes area side len size bytes codes counts formed
+  unread : FormOf T side len size bytes codes counts formed
   unfolding allBelow
   unread = record { none-yet = λ e. rw e; built = λ n B h. refl }
 
   module _ (reading : List ℕ) where
-    pub checked-out : form ≡ Out → Checked file places lefts rights prefixes area side len size bytes codes counts reading Out
+    pub checked-out : form ≡ Out → Checked T side len size bytes codes counts reading Out
     checked-out e = record { fine = formed; form = unread; answer = rw e; passed = λ n z. absurd (out-rows n z) }
 
     module _ (n : ℕ) (e : form ≡ Rows n) where
-      pub checked-beyond : size < len → Checked file places lefts rights prefixes area side len size bytes codes counts reading Out
+      pub checked-beyond : size < len → Checked T side len size bytes codes counts reading Out
       checked-beyond h = record { fine = formed; form = unread; answer = rw (e, lt-ltb size len h); passed = λ m z. absurd (out-rows m z) }
 
-      pub checked-long : len ≤ size → 4096 < len → Checked file places lefts rights prefixes area side len size bytes codes counts reading Out
+      pub checked-long : len ≤ size → 4096 < len → Checked T side len size bytes codes counts reading Out
       checked-long h k = record { fine = formed; form = unread; answer = rw (e, le-ltb size len h, lt-ltb 4096 len k); passed = λ m z. absurd (out-rows m z) }
 
-      read : (r : Bool) → RecordsAre file places lefts rights area side n bytes codes counts len r → FormOf file places lefts rights prefixes area side len size bytes codes counts r
+      read : (r : Bool) → RecordsAre file places lefts rights area side n bytes codes counts len r → FormOf T side len size bytes codes counts r
       read r R = record {
         none-yet = R .none-yet;
-        built = λ m B h. R .built prefixes (same-build file places lefts rights prefixes area n m (ready file places lefts rights prefixes area n e .places-ready) B);
+        built = λ m B h. R .built prefixes (same-build T n m (ready T n e .places-ready) B);
       }
 
       module _ (h : len ≤ size) (k : len ≤ 4096) where
-        pub checked-broken : RecordsAre file places lefts rights area side n bytes codes counts len false → Checked file places lefts rights prefixes area side len size bytes codes counts reading Out
+        pub checked-broken : RecordsAre file places lefts rights area side n bytes codes counts len false → Checked T side len size bytes codes counts reading Out
         checked-broken R = record { fine = false; form = read false R; answer = rw (e, le-ltb size len h, le-ltb 4096 len k); passed = λ m z. absurd (out-rows m z) }
 
         pub checked-passed : RecordsAre file places lefts rights area side n bytes codes counts len true → Mirrored bytes reading len → Octets bytes
-            → Checked file places lefts rights prefixes area side len size bytes codes counts reading (Rows n)
+            → Checked T side len size bytes codes counts reading (Rows n)
         checked-passed R M o = record {
           fine = true;
           form = read true R;
           answer = rw (e, le-ltb size len h, le-ltb 4096 len k);
-          passed = λ m z. let q : n ≡ m = cc in subst (λ (x : ℕ). PassedTo file places lefts rights prefixes area side x len bytes reading codes counts) q passed;
+          passed = λ m z. let q : n ≡ m = cc in subst (λ (x : ℕ). PassedTo T side x len bytes reading codes counts) q passed;
         }
           where
-            true-at : Built file places lefts rights prefixes area n → (j : ℕ) → j < len → TrueAt (dictionaryOf file) side bytes codes counts j
+            true-at : Built T n → (j : ℕ) → j < len → TrueAt (dictionaryOf file) side bytes codes counts j
             true-at B =
-                forms-true (dictionaryOf file) side (lawful-is file places lefts rights prefixes area n B) bytes (known file places lefts rights prefixes area n B bytes o) codes counts len
+                forms-true (dictionaryOf file) side (lawful-is T n B) bytes (known T n B bytes o) codes counts len
                 (omega (arith, M .bytes-size))
                 (all-each (inForm (dictionaryOf file) side bytes codes counts) len (sym (R .built prefixes B)))
 
-            passed : PassedTo file places lefts rights prefixes area side n len bytes reading codes counts
+            passed : PassedTo T side n len bytes reading codes counts
             passed = record {
-              tables = ready file places lefts rights prefixes area n e;
+              tables = ready T n e;
               mirrored = M;
               rows = R .rows refl;
               small = R .small refl;
@@ -155,8 +158,8 @@ module _ (file places lefts rights prefixes area : List ℕ) (side : Side) (len 
 
   -- push and extend
   module _ (typed bytes' codes' counts' : List ℕ) where
-    refused : (fine : Bool) → FormOf file places lefts rights prefixes area side len size bytes codes counts fine → (cause : Cause) → extendRefusal form len size fine typed ≡ some cause
-        → ExtendedColumns file places lefts rights prefixes area side len size bytes codes counts typed (Refused cause) bytes' codes' counts'
+    refused : (fine : Bool) → FormOf T side len size bytes codes counts fine → (cause : Cause) → extendRefusal form len size fine typed ≡ some cause
+        → ExtendedColumns T side len size bytes codes counts typed (Refused cause) bytes' codes' counts'
     refused fine F cause e = record {
       fine = fine;
       form = F;
@@ -165,27 +168,27 @@ module _ (file places lefts rights prefixes area : List ℕ) (side : Side) (len 
       built = λ n B z k h. absurd (some-none cause (sym e ∙ z));
     }
 
-    pub extend-long : 4096 < length typed → ExtendedColumns file places lefts rights prefixes area side len size bytes codes counts typed (Refused TooLong) bytes' codes' counts'
+    pub extend-long : 4096 < length typed → ExtendedColumns T side len size bytes codes counts typed (Refused TooLong) bytes' codes' counts'
     extend-long h = refused formed unread TooLong (refuse-long form len size formed typed h)
 
     module _ (short : length typed ≤ 4096) (reading : List ℕ) where
-      pub extend-out : Checked file places lefts rights prefixes area side len size bytes codes counts reading Out
-          → ExtendedColumns file places lefts rights prefixes area side len size bytes codes counts typed (Refused OutOfForm) bytes' codes' counts'
+      pub extend-out : Checked T side len size bytes codes counts reading Out
+          → ExtendedColumns T side len size bytes codes counts typed (Refused OutOfForm) bytes' codes' counts'
       extend-out C = refused (C .fine) (C .form) OutOfForm (refuse-out form len size (C .fine) typed short (any-out form len size (C .fine) (C .answer)))
 
-      module _ (n : ℕ) (C : Checked file places lefts rights prefixes area side len size bytes codes counts reading (Rows n)) where
+      module _ (n : ℕ) (C : Checked T side len size bytes codes counts reading (Rows n)) where
         right : anyOut form len size (C .fine) ≡ false
         right = none-out form len size (C .fine) n (C .answer)
 
-        pub extend-slice : size < len + length typed → ExtendedColumns file places lefts rights prefixes area side len size bytes codes counts typed (Refused (Full len)) bytes' codes' counts'
+        pub extend-slice : size < len + length typed → ExtendedColumns T side len size bytes codes counts typed (Refused (Full len)) bytes' codes' counts'
         extend-slice h = refused (C .fine) (C .form) (Full len) (refuse-slice form len size (C .fine) typed short right h)
 
         module _ (fits : len + length typed ≤ size) where
-          pub extend-most : 4096 < len + length typed → ExtendedColumns file places lefts rights prefixes area side len size bytes codes counts typed (Refused (Full len)) bytes' codes' counts'
+          pub extend-most : 4096 < len + length typed → ExtendedColumns T side len size bytes codes counts typed (Refused (Full len)) bytes' codes' counts'
           extend-most h = refused (C .fine) (C .form) (Full len) (refuse-most form len size (C .fine) typed short right fits h)
 
           pub extend-done : len + length typed ≤ 4096 → ExtendedBy file places lefts rights area side n len bytes codes counts typed bytes' codes' counts'
-              → ExtendedColumns file places lefts rights prefixes area side len size bytes codes counts typed (Number (len + length typed)) bytes' codes' counts'
+              → ExtendedColumns T side len size bytes codes counts typed (Number (len + length typed)) bytes' codes' counts'
           extend-done h X = record {
             fine = C .fine;
             form = C .form;
@@ -193,36 +196,36 @@ module _ (file places lefts rights prefixes area : List ℕ) (side : Side) (len 
             bytes-are = λ z k l. X .bytes-are k l;
             built = λ m B z k l.
                 let P = C .passed n refl in
-                let B' = same-build file places lefts rights prefixes area n m (P .tables .places-ready) B in
+                let B' = same-build T n m (P .tables .places-ready) B in
                 let t = X .built prefixes B' (P .codes-are B') (P .counts-are B') in
                 record { byte = X .bytes-are k l; code = t .0 (len + k) (omega arith); count = t .1 (len + k) (omega arith) };
           }
 
   -- what passed the checks has a length in form
-  pub checked-place : (reading : List ℕ) (n : ℕ) → Checked file places lefts rights prefixes area side len size bytes codes counts reading (Rows n) → len ≤ 4096
+  pub checked-place : (reading : List ℕ) (n : ℕ) → Checked T side len size bytes codes counts reading (Rows n) → len ≤ 4096
   checked-place reading n C = C .passed n refl .mirrored .fits
 
   -- the columns may be extended
-  pub extend-ready : (typed reading : List ℕ) (n : ℕ) → Checked file places lefts rights prefixes area side len size bytes codes counts reading (Rows n)
+  pub extend-ready : (typed reading : List ℕ) (n : ℕ) → Checked T side len size bytes codes counts reading (Rows n)
       → len + length typed ≤ 4096 → length codes ≡ 4096 → length counts ≡ 4096 → ExtendReady file places lefts rights area n len bytes codes counts typed
   extend-ready typed reading n C h c k =
       let P = C .passed n refl in
-      record { in-form = parts-in-form file places lefts rights prefixes area n (P .tables); room = h; bytes-size = P .mirrored .bytes-size; codes-size = c; counts-size = k; rows = P .rows; small = P .small }
+      record { in-form = parts-in-form T n (P .tables); room = h; bytes-size = P .mirrored .bytes-size; codes-size = c; counts-size = k; rows = P .rows; small = P .small }
 
   -- `token_count`
   module _ (reading : List ℕ) where
-    pub count-out : Checked file places lefts rights prefixes area side len size bytes codes counts reading Out
-        → CountedColumns file places lefts rights prefixes area side len size bytes codes counts (Refused OutOfForm)
+    pub count-out : Checked T side len size bytes codes counts reading Out
+        → CountedColumns T side len size bytes codes counts (Refused OutOfForm)
     unfolding tokenCountRefusal
     count-out C = record { fine = C .fine; form = C .form; answer = rw (any-out form len size (C .fine) (C .answer)) }
 
-    module _ (n : ℕ) (C : Checked file places lefts rights prefixes area side len size bytes codes counts reading (Rows n)) where
-      counted : (x : ℕ) → x ≡ lastCount counts len → CountedColumns file places lefts rights prefixes area side len size bytes codes counts (Number x)
+    module _ (n : ℕ) (C : Checked T side len size bytes codes counts reading (Rows n)) where
+      counted : (x : ℕ) → x ≡ lastCount counts len → CountedColumns T side len size bytes codes counts (Number x)
       unfolding tokenCountRefusal
       counted x e = record { fine = C .fine; form = C .form; answer = rw (none-out form len size (C .fine) n (C .answer)) (ap Number e) }
 
-      pub count-none : len ≡ 0 → CountedColumns file places lefts rights prefixes area side len size bytes codes counts (Number 0)
+      pub count-none : len ≡ 0 → CountedColumns T side len size bytes codes counts (Number 0)
       count-none e = counted 0 (rw e)
 
-      pub count-last : (x : ℕ) → (len ≡ 0 → ⊥) → x ≡ getD counts (len - 1) 0 → CountedColumns file places lefts rights prefixes area side len size bytes codes counts (Number x)
+      pub count-last : (x : ℕ) → (len ≡ 0 → ⊥) → x ≡ getD counts (len - 1) 0 → CountedColumns T side len size bytes codes counts (Number x)
       count-last x h e = counted x (e ∙ sym (last-is counts len h))

@@ -17,6 +17,7 @@ use Rattle.typing_core.specs.declared.Side as Declared
 use Rattle.typing_core.specs.declared.Side.the-variants.{Append, Prepend}
 use Rattle.typing_core.specs.Sides.{sideOf}
 use Rattle.typing_core.specs.Steps.{countWith, CodesAre, CodeIs}
+use Rattle.tables.specs.Tables.{tables}
 
 counted-with : (D : Dictionary) (side : Side) (counts : List ℕ) (i c : ℕ) → CountedAt D side (λ j. getD counts j 0) i c (countWith D counts i c)
 unfolding countWith
@@ -31,14 +32,14 @@ module _ (file places lefts rights area : List ℕ) (n : ℕ) (bytes : List ℕ)
   D = dictionaryOf file
 
   -- the true code has the true count
-  coded : (side : Side) (r : ℕ) → r < n → ((prefixes : List ℕ) → Built file places lefts rights prefixes area n → CodesAre file side bytes codes i → r ≡ codeAt D side bytes i)
+  coded : (side : Side) (r : ℕ) → r < n → ((prefixes : List ℕ) → Built (tables file places lefts rights prefixes area) n → CodesAre file side bytes codes i → r ≡ codeAt D side bytes i)
       → CodeIs file places lefts rights area side n bytes i codes r
   coded side r h f = record {
     row = h;
     code = f;
     count = λ prefixes B agree counts small.
-        let L = lawful-is file places lefts rights prefixes area n B in
-        let k = known file places lefts rights prefixes area n B bytes o in
+        let L = lawful-is (tables file places lefts rights prefixes area) n B in
+        let k = known (tables file places lefts rights prefixes area) n B bytes o in
         one-count D side L bytes k i (R .inside) (λ j. getD codes j 0) (λ j. getD counts j 0) r (countWith D counts i r) agree small
         (one-row D side L bytes k i (R .inside) (λ j. getD codes j 0) r agree .1 (f prefixes B agree)) .0
         (counted-with D side counts i r);

@@ -16,14 +16,15 @@ use Rattle.typing_core.specs.declared.Side as Declared
 use Rattle.typing_core.specs.declared.Side.the-variants.{Append, Prepend}
 use Rattle.typing_core.specs.Sides.{sideOf}
 use Rattle.typing_core.specs.Steps.{followsCode, countWith, PairOf, BesideIs, FollowsReady, FollowsIs, CountReady, CountIs}
+use Rattle.tables.specs.Tables.{tables}
 
 -- the order of the pair check
 module _ (file places lefts rights area : List ℕ) (s : Declared.Side) (n before c : ℕ) (r : Bool) where
   pub beside-appended : s ≡ Append → PairIs file places lefts rights area n n before c r → BesideIs file places lefts rights area (sideOf s) n before c r
-  beside-appended e p = record { built = λ prefixes B. rw e (pair-is file places lefts rights prefixes area n B before c r p) }
+  beside-appended e p = record { built = λ prefixes B. rw e (pair-is (tables file places lefts rights prefixes area) n B before c r p) }
 
   pub beside-prepended : s ≡ Prepend → PairIs file places lefts rights area n n c before r → BesideIs file places lefts rights area (sideOf s) n before c r
-  beside-prepended e p = record { built = λ prefixes B. rw e (pair-is file places lefts rights prefixes area n B c before r p) }
+  beside-prepended e p = record { built = λ prefixes B. rw e (pair-is (tables file places lefts rights prefixes area) n B c before r p) }
 
 or-none : (a b : Bool) → b ≡ false → a ≡ a || b
 or-none true b e = refl

@@ -15,6 +15,7 @@ use Rattle.built.specs.Built.{dictionaryOf, Built}
 use Rattle.end_code.specs.Tables.{RowsTo, PartsInForm}
 use Rattle.end_code.specs.Codes.{CodeReady}
 use Rattle.typing_core.specs.Steps.{CountsTo, CodesAre, CountsAre, CountReady, CountIs, CodeIs, PushReady, Pushed, ExtendReady, ExtendedBy}
+use Rattle.tables.specs.Tables.{tables}
 
 module _ (file places lefts rights area : List ℕ) (n i : ℕ) (bytes codes counts : List ℕ) (R : PushReady file places lefts rights area n i bytes codes counts) where
   pub push-code-ready : (byte : ℕ) → CodeReady file places lefts rights area n (set bytes i byte) i codes
@@ -77,8 +78,8 @@ module _ (file places lefts rights area : List ℕ) (side : Side) (n len : ℕ) 
     pub codes-kept : (j : ℕ) → j < len → getD codes j 0 ≡ getD codes₀ j 0
     pub counts-kept : (j : ℕ) → j < len → getD counts j 0 ≡ getD counts₀ j 0
     pub bytes-are : (m : ℕ) → m < k → getD bytes (len + m) 0 ≡ getD typed m 0
-    pub codes-are : (prefixes : List ℕ) → Built file places lefts rights prefixes area n → CodesAre file side bytes₀ codes₀ len → CountsAre file side bytes₀ counts₀ len → CodesAre file side s codes (len + k)
-    pub counts-are : (prefixes : List ℕ) → Built file places lefts rights prefixes area n → CodesAre file side bytes₀ codes₀ len → CountsAre file side bytes₀ counts₀ len → CountsAre file side s counts (len + k)
+    pub codes-are : (prefixes : List ℕ) → Built (tables file places lefts rights prefixes area) n → CodesAre file side bytes₀ codes₀ len → CountsAre file side bytes₀ counts₀ len → CodesAre file side s codes (len + k)
+    pub counts-are : (prefixes : List ℕ) → Built (tables file places lefts rights prefixes area) n → CodesAre file side bytes₀ codes₀ len → CountsAre file side bytes₀ counts₀ len → CountsAre file side s counts (len + k)
 
   pub extending-start : ExtendReady file places lefts rights area n len bytes₀ codes₀ counts₀ typed → Extending 0 bytes₀ codes₀ counts₀
   extending-start R =
@@ -200,8 +201,8 @@ module _ (file places lefts rights area : List ℕ) (side : Side) (n len : ℕ) 
               (P .count-is prefixes B (codes-before prefixes B c d) (counts-before prefixes B c d) ∙ count-same i (omega arith)));
         }
           where
-            codes-before : (prefixes : List ℕ) → Built file places lefts rights prefixes area n → CodesAre file side bytes₀ codes₀ len → CountsAre file side bytes₀ counts₀ len → CodesAre file side bytes' codes i
+            codes-before : (prefixes : List ℕ) → Built (tables file places lefts rights prefixes area) n → CodesAre file side bytes₀ codes₀ len → CountsAre file side bytes₀ counts₀ len → CodesAre file side bytes' codes i
             codes-before prefixes B c d j l = E .codes-are prefixes B c d j l ∙ sym (code-same j (omega arith))
 
-            counts-before : (prefixes : List ℕ) → Built file places lefts rights prefixes area n → CodesAre file side bytes₀ codes₀ len → CountsAre file side bytes₀ counts₀ len → CountsAre file side bytes' counts i
+            counts-before : (prefixes : List ℕ) → Built (tables file places lefts rights prefixes area) n → CodesAre file side bytes₀ codes₀ len → CountsAre file side bytes₀ counts₀ len → CountsAre file side bytes' counts i
             counts-before prefixes B c d j l = E .counts-are prefixes B c d j l ∙ sym (count-same j (omega arith))

@@ -13,6 +13,7 @@ use borrow.Author.Tests.{lt-ltb, le-ltb, lt-leb, ne-eqb, eq-eqb, eqb-true}
 use Rattle.theory.specs.Dictionary.{Dictionary}
 use Rattle.theory.specs.Typing.{Side, passesBeside, inForm}
 use Rattle.theory.proofs.Lists.{true-false, lt-or-ge}
+use Rattle.tables.specs.Tables.{tables}
 use Rattle.tables.specs.InForm.{allBelow}
 use Rattle.tables.proofs.Sweeps.{all-more, all-done, all-fails}
 use Rattle.built.specs.Built.{dictionaryOf, Built}
@@ -97,7 +98,7 @@ module _ (file places lefts rights area : List ℕ) (side : Side) (n : ℕ) (byt
   counted = row-count file places n (R .ready .in-form .places-ready)
 
   -- a record that fails a test
-  fails : ((prefixes : List ℕ) → Built file places lefts rights prefixes area n
+  fails : ((prefixes : List ℕ) → Built (tables file places lefts rights prefixes area) n
       → false ≡ ltb c' (D' .count) && (endsBytes D' side bytes i c' && (followsCode D' side codes i c' && eqb (getD counts i 0) (countWith D' counts i c'))))
       → RecordIs file places lefts rights area side n bytes codes counts i false
   fails f = record {
@@ -139,7 +140,7 @@ module _ (file places lefts rights area : List ℕ) (side : Side) (n : ℕ) (byt
     pub within : i ≤ len
     pub rows : RowsTo n codes i
     pub small : CountsTo counts i
-    pub built : (prefixes : List ℕ) → Built file places lefts rights prefixes area n → allBelow i (inForm (dictionaryOf file) side bytes codes counts) ≡ true
+    pub built : (prefixes : List ℕ) → Built (tables file places lefts rights prefixes area) n → allBelow i (inForm (dictionaryOf file) side bytes codes counts) ≡ true
 
   pub records-start : RecordsReady file places lefts rights area n bytes reading codes counts len → Recorded 0
   unfolding allBelow

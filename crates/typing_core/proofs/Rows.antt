@@ -7,6 +7,7 @@ use lib.ListN.{length}
 use Rattle.phrase_file.specs.Form.{rows}
 use Rattle.placed_rows.specs.Rows.{row}
 use Rattle.theory.specs.Parts.{dictionary}
+use Rattle.tables.specs.Tables.{Tables}
 use Rattle.tables.specs.Ready.{PlacesReady, Ready}
 use Rattle.token_pair.specs.Pair.{PairReady}
 use Rattle.built.specs.Built.{dictionaryOf}
@@ -25,8 +26,8 @@ row-read file places n c x t P h e f =
     let k = P .count in
     f ∙ ap (row file places n) e ∙ P .rows-are c h ∙ any-default (rows file) c [] ((c - length (rows file)) ∷ []) (omega arith)
 
-pub parts-in-form : (file places lefts rights prefixes area : List ℕ) (n : ℕ) → Ready file places lefts rights prefixes area n → PartsInForm file places lefts rights area n
-parts-in-form file places lefts rights prefixes area n R = record { places-ready = R .places-ready; parts-ready = R .parts-ready; area-room = R .area-room }
+pub parts-in-form : (T : Tables) (n : ℕ) → Ready T n → PartsInForm (T .file) (T .places) (T .lefts) (T .rights) (T .area) n
+parts-in-form T n R = record { places-ready = R .places-ready; parts-ready = R .parts-ready; area-room = R .area-room }
 
 -- two rows may be checked in either order
 module _ (file places lefts rights area : List ℕ) (n before c : ℕ) (P : PairOf file places lefts rights area n before c) where

@@ -6,6 +6,7 @@ use mathlib.Core.Bool.{Bool, true, false}
 use Prim.Native.Nat.{ℕ, zero, suc, _+_, _<_}
 use lib.ListN.{length, getD, take}
 use Rattle.theory.specs.Typing as Typing
+use Rattle.tables.specs.Tables.{Tables}
 use Rattle.tables.specs.InForm.{formOf, allBelow}
 use Rattle.tables.specs.declared.Answer.{Answer}
 use Rattle.answers.specs.Answers.{answered}
@@ -17,11 +18,13 @@ abbrev pub lastCount : List ℕ → ℕ → ℕ
 lastCount counts zero = 0
 lastCount counts (suc i) = getD counts i 0
 
-module _ (file placeTable lefts rights prefixes area : List ℕ) (side : Typing.Side) (len size : ℕ) where
+module _ (T : Tables) (side : Typing.Side) (len size : ℕ) where
+  open Tables T using (file)
+
   -- whether the records below the length are in form: exact over tables that a build left, and where there are none; left free over other tables
   pub record FormOf (bytes codes counts : List ℕ) (fine : Bool) : Type 0 where
     pub none-yet : len ≡ 0 → fine ≡ true
-    pub built : (n : ℕ) → Built file placeTable lefts rights prefixes area n → headOut len size ≡ false
+    pub built : (n : ℕ) → Built T n → headOut len size ≡ false
         → fine ≡ allBelow len (Typing.inForm (dictionaryOf file) side bytes codes counts)
 
   -- the columns have the records of the bytes typed, from the length on
@@ -34,15 +37,15 @@ module _ (file placeTable lefts rights prefixes area : List ℕ) (side : Typing.
   pub record ExtendedColumns (bytes codes counts typed : List ℕ) (r : Answer) (bytes' codes' counts' : List ℕ) : Type 0 where
     pub fine : Bool
     pub form : FormOf bytes codes counts fine
-    pub answer : r ≡ answered (extendRefusal (formOf file placeTable lefts rights prefixes area) len size fine typed) (len + length typed)
-    pub bytes-are : extendRefusal (formOf file placeTable lefts rights prefixes area) len size fine typed ≡ none → (k : ℕ) → k < length typed
+    pub answer : r ≡ answered (extendRefusal (formOf T) len size fine typed) (len + length typed)
+    pub bytes-are : extendRefusal (formOf T) len size fine typed ≡ none → (k : ℕ) → k < length typed
         → getD bytes' (len + k) 0 ≡ getD typed k 0
-    pub built : (n : ℕ) → Built file placeTable lefts rights prefixes area n
-        → extendRefusal (formOf file placeTable lefts rights prefixes area) len size fine typed ≡ none → (k : ℕ) → k < length typed
+    pub built : (n : ℕ) → Built T n
+        → extendRefusal (formOf T) len size fine typed ≡ none → (k : ℕ) → k < length typed
         → Typed bytes codes counts typed bytes' codes' counts' k
 
   -- `token_count` on columns: the last record's count
   pub record CountedColumns (bytes codes counts : List ℕ) (r : Answer) : Type 0 where
     pub fine : Bool
     pub form : FormOf bytes codes counts fine
-    pub answer : r ≡ answered (tokenCountRefusal (formOf file placeTable lefts rights prefixes area) len size fine) (lastCount counts len)
+    pub answer : r ≡ answered (tokenCountRefusal (formOf T) len size fine) (lastCount counts len)

@@ -8,6 +8,7 @@ use lib.Dec.{ltb, leb, eqb}
 use Rattle.theory.specs.Dictionary.{Dictionary}
 use Rattle.theory.specs.Lists.{equal}
 use Rattle.theory.specs.Typing as Typing
+use Rattle.tables.specs.Tables.{Tables, tables}
 use Rattle.tables.specs.declared.Form.{Form}
 use Rattle.tables.specs.declared.Form.the-variants.{Rows, Out}
 use Rattle.tables.specs.InForm.{formOf, allBelow}
@@ -70,7 +71,7 @@ pub record PairOf (file places lefts rights area : List ℕ) (n before c : ℕ) 
 
 -- whether row c passes beside the code typed before it
 pub record BesideIs (file places lefts rights area : List ℕ) (side : Typing.Side) (n before c : ℕ) (r : Bool) : Type 0 where
-  pub built : (prefixes : List ℕ) → Built file places lefts rights prefixes area n → r ≡ Typing.passesBeside (dictionaryOf file) side before c
+  pub built : (prefixes : List ℕ) → Built (tables file places lefts rights prefixes area) n → r ≡ Typing.passesBeside (dictionaryOf file) side before c
 
 -- row c at place i behind rows
 pub record FollowsReady (file places lefts rights area : List ℕ) (n : ℕ) (codes : List ℕ) (i c : ℕ) : Type 0 where
@@ -80,7 +81,7 @@ pub record FollowsReady (file places lefts rights area : List ℕ) (n : ℕ) (co
 
 -- whether row c follows
 pub record FollowsIs (file places lefts rights area : List ℕ) (side : Typing.Side) (n : ℕ) (codes : List ℕ) (i c : ℕ) (r : Bool) : Type 0 where
-  pub built : (prefixes : List ℕ) → Built file places lefts rights prefixes area n → r ≡ followsCode (dictionaryOf file) side codes i c
+  pub built : (prefixes : List ℕ) → Built (tables file places lefts rights prefixes area) n → r ≡ followsCode (dictionaryOf file) side codes i c
 
 -- row c at place i behind small counts
 pub record CountReady (file places : List ℕ) (n : ℕ) (counts : List ℕ) (i c : ℕ) : Type 0 where
@@ -112,20 +113,20 @@ pub record RecordReady (file places lefts rights area : List ℕ) (n : ℕ) (byt
 pub record RecordIs (file places lefts rights area : List ℕ) (side : Typing.Side) (n : ℕ) (bytes codes counts : List ℕ) (i : ℕ) (r : Bool) : Type 0 where
   pub row : r ≡ true → getD codes i 0 < n
   pub small : r ≡ true → getD counts i 0 ≤ suc i
-  pub built : (prefixes : List ℕ) → Built file places lefts rights prefixes area n → r ≡ Typing.inForm (dictionaryOf file) side bytes codes counts i
+  pub built : (prefixes : List ℕ) → Built (tables file places lefts rights prefixes area) n → r ≡ Typing.inForm (dictionaryOf file) side bytes codes counts i
 
 -- whether the records below len are in form; if so their codes are rows and their counts are small
 pub record RecordsAre (file places lefts rights area : List ℕ) (side : Typing.Side) (n : ℕ) (bytes codes counts : List ℕ) (len : ℕ) (r : Bool) : Type 0 where
   pub none-yet : len ≡ 0 → r ≡ true
   pub rows : r ≡ true → RowsTo n codes len
   pub small : r ≡ true → CountsTo counts len
-  pub built : (prefixes : List ℕ) → Built file places lefts rights prefixes area n → r ≡ allBelow len (Typing.inForm (dictionaryOf file) side bytes codes counts)
+  pub built : (prefixes : List ℕ) → Built (tables file places lefts rights prefixes area) n → r ≡ allBelow len (Typing.inForm (dictionaryOf file) side bytes codes counts)
 
 -- a row; behind true codes the code of record i, and behind true counts its count goes with it
 pub record CodeIs (file places lefts rights area : List ℕ) (side : Typing.Side) (n : ℕ) (bytes : List ℕ) (i : ℕ) (codes : List ℕ) (r : ℕ) : Type 0 where
   pub row : r < n
-  pub code : (prefixes : List ℕ) → Built file places lefts rights prefixes area n → CodesAre file side bytes codes i → r ≡ Typing.codeAt (dictionaryOf file) side bytes i
-  pub count : (prefixes : List ℕ) → Built file places lefts rights prefixes area n → CodesAre file side bytes codes i → (counts : List ℕ) → CountsAre file side bytes counts i
+  pub code : (prefixes : List ℕ) → Built (tables file places lefts rights prefixes area) n → CodesAre file side bytes codes i → r ≡ Typing.codeAt (dictionaryOf file) side bytes i
+  pub count : (prefixes : List ℕ) → Built (tables file places lefts rights prefixes area) n → CodesAre file side bytes codes i → (counts : List ℕ) → CountsAre file side bytes counts i
       → countWith (dictionaryOf file) counts i r ≡ Typing.countAt (dictionaryOf file) side bytes i
 
 -- what one byte more at place i needs
@@ -147,8 +148,8 @@ pub record Pushed (file places lefts rights area : List ℕ) (side : Typing.Side
   pub bytes-are : bytes' ≡ set bytes i byte
   pub codes-are : codes' ≡ set codes i code
   pub counts-are : counts' ≡ set counts i count
-  pub code-is : (prefixes : List ℕ) → Built file places lefts rights prefixes area n → CodesAre file side bytes' codes i → code ≡ Typing.codeAt (dictionaryOf file) side bytes' i
-  pub count-is : (prefixes : List ℕ) → Built file places lefts rights prefixes area n → CodesAre file side bytes' codes i → CountsAre file side bytes' counts i
+  pub code-is : (prefixes : List ℕ) → Built (tables file places lefts rights prefixes area) n → CodesAre file side bytes' codes i → code ≡ Typing.codeAt (dictionaryOf file) side bytes' i
+  pub count-is : (prefixes : List ℕ) → Built (tables file places lefts rights prefixes area) n → CodesAre file side bytes' codes i → CountsAre file side bytes' counts i
       → count ≡ Typing.countAt (dictionaryOf file) side bytes' i
 
 -- what the bytes typed behind the first len need
@@ -168,17 +169,17 @@ pub record ExtendedBy (file places lefts rights area : List ℕ) (side : Typing.
   pub codes-kept : (j : ℕ) → j < len → getD codes' j 0 ≡ getD codes j 0
   pub counts-kept : (j : ℕ) → j < len → getD counts' j 0 ≡ getD counts j 0
   pub bytes-are : (k : ℕ) → k < length typed → getD bytes' (len + k) 0 ≡ getD typed k 0
-  pub built : (prefixes : List ℕ) → Built file places lefts rights prefixes area n → CodesAre file side bytes codes len → CountsAre file side bytes counts len
+  pub built : (prefixes : List ℕ) → Built (tables file places lefts rights prefixes area) n → CodesAre file side bytes codes len → CountsAre file side bytes counts len
       → CodesAre file side (take len bytes ++ typed) codes' (len + length typed) × CountsAre file side (take len bytes ++ typed) counts' (len + length typed)
 
 -- records that passed the checks: over tables that a build left they are the true ones
-pub record PassedTo (file places lefts rights prefixes area : List ℕ) (side : Typing.Side) (n len : ℕ) (bytes reading codes counts : List ℕ) : Type 0 where
-  pub tables : Ready file places lefts rights prefixes area n
+pub record PassedTo (T : Tables) (side : Typing.Side) (n len : ℕ) (bytes reading codes counts : List ℕ) : Type 0 where
+  pub tables : Ready T n
   pub mirrored : Mirrored bytes reading len
   pub rows : RowsTo n codes len
   pub small : CountsTo counts len
-  pub codes-are : Built file places lefts rights prefixes area n → CodesAre file side bytes codes len
-  pub counts-are : Built file places lefts rights prefixes area n → CountsAre file side bytes counts len
+  pub codes-are : Built T n → CodesAre (T .file) side bytes codes len
+  pub counts-are : Built T n → CountsAre (T .file) side bytes counts len
 
 -- the sizes of the columns
 pub record Sizes (bytes codes counts reading : List ℕ) : Type 0 where
@@ -188,8 +189,8 @@ pub record Sizes (bytes codes counts reading : List ℕ) : Type 0 where
   pub reading-size : length reading ≡ 4096
 
 -- the checks of tables, head and records: the count of rows, or out of form; if there is none, the records below len may be read
-pub record Checked (file places lefts rights prefixes area : List ℕ) (side : Typing.Side) (len size : ℕ) (bytes codes counts reading : List ℕ) (r : Form) : Type 0 where
+pub record Checked (T : Tables) (side : Typing.Side) (len size : ℕ) (bytes codes counts reading : List ℕ) (r : Form) : Type 0 where
   pub fine : Bool
-  pub form : FormOf file places lefts rights prefixes area side len size bytes codes counts fine
-  pub answer : r ≡ cond (anyOut (formOf file places lefts rights prefixes area) len size fine) Out (formOf file places lefts rights prefixes area)
-  pub passed : (n : ℕ) → r ≡ Rows n → PassedTo file places lefts rights prefixes area side n len bytes reading codes counts
+  pub form : FormOf T side len size bytes codes counts fine
+  pub answer : r ≡ cond (anyOut (formOf T) len size fine) Out (formOf T)
+  pub passed : (n : ℕ) → r ≡ Rows n → PassedTo T side n len bytes reading codes counts

@@ -8,6 +8,7 @@ ghost use Rattle.end_code.specs.Codes.{CodeReady};
 ghost use Rattle.typing_core.specs.Sides.{sideOf, sideNumbered};
 ghost use Rattle.typing_core.specs.Columns.{ExtendedColumns, CountedColumns};
 ghost use Rattle.typing_core.specs.Steps.{FillReady, Mirrored, Sizes, endsBytes, EndsReady, PairOf, BesideIs, FollowsReady, FollowsIs, CountReady, CountIs, RecordsReady, RecordReady, RecordIs, RecordsAre, CodeIs, PushReady, Pushed, ExtendReady, ExtendedBy, Checked};
+ghost use Rattle.tables.specs.Tables.{lent, before, after};
 use causes::Cause;
 use end_code::end_code_at;
 use placed_rows::wide;
@@ -92,7 +93,8 @@ fn passes_beside(
     code: u32,
 ) -> bool
     requires { ⌜ PairOf (now file) (now places) (now lefts) (now rights) (now area) n before code ⌝ }
-    ensures { λ r. ⌜ BesideIs (now (file .entry)) (now (places .entry)) (now (lefts .entry)) (now (rights .entry)) (now (area .entry)) (sideOf side) n before code r ⌝ }
+    ensures { λ r. ⌜ BesideIs (now (file .entry)) (now (places .entry)) (now (lefts .entry)) (now (rights .entry))
+        (now (area .entry)) (sideOf side) n before code r ⌝ }
 {
     let limit = n as u32;
     match side {
@@ -119,7 +121,8 @@ fn follows(
     code: u32,
 ) -> bool
     requires { ⌜ FollowsReady (now file) (now places) (now lefts) (now rights) (now area) n (now codes) i code ⌝ }
-    ensures { λ r. ⌜ FollowsIs (now (file .entry)) (now (places .entry)) (now (lefts .entry)) (now (rights .entry)) (now (area .entry)) (sideOf side) n (now (codes .entry)) i code r ⌝ }
+    ensures { λ r. ⌜ FollowsIs (now (file .entry)) (now (places .entry)) (now (lefts .entry)) (now (rights .entry))
+        (now (area .entry)) (sideOf side) n (now (codes .entry)) i code r ⌝ }
 {
     let len = row_len(file, places, n, code);
     if i < len {
@@ -156,8 +159,10 @@ fn record_in_form(
     counts: &[u32],
     i: usize,
 ) -> bool
-    requires { ⌜ RecordReady (now file) (now places) (now lefts) (now rights) (now area) n (now bytes) (now reading) (now codes) (now counts) i ⌝ }
-    ensures { λ r. ⌜ RecordIs (now (file .entry)) (now (places .entry)) (now (lefts .entry)) (now (rights .entry)) (now (area .entry)) (sideOf side) n (now (bytes .entry)) (now (codes .entry)) (now (counts .entry)) i r ⌝ }
+    requires { ⌜ RecordReady (now file) (now places) (now lefts) (now rights) (now area) n (now bytes) (now reading)
+        (now codes) (now counts) i ⌝ }
+    ensures { λ r. ⌜ RecordIs (now (file .entry)) (now (places .entry)) (now (lefts .entry)) (now (rights .entry))
+        (now (area .entry)) (sideOf side) n (now (bytes .entry)) (now (codes .entry)) (now (counts .entry)) i r ⌝ }
 {
     let code = codes[i];
     if n <= wide(code) {
@@ -187,8 +192,10 @@ pub fn records_in_form(
     counts: &[u32],
     len: usize,
 ) -> bool
-    requires { ⌜ RecordsReady (now file) (now places) (now lefts) (now rights) (now area) n (now bytes) (now reading) (now codes) (now counts) len ⌝ }
-    ensures { λ r. ⌜ RecordsAre (now (file .entry)) (now (places .entry)) (now (lefts .entry)) (now (rights .entry)) (now (area .entry)) (sideOf side) n (now (bytes .entry)) (now (codes .entry)) (now (counts .entry)) len r ⌝ }
+    requires { ⌜ RecordsReady (now file) (now places) (now lefts) (now rights) (now area) n (now bytes)
+        (now reading) (now codes) (now counts) len ⌝ }
+    ensures { λ r. ⌜ RecordsAre (now (file .entry)) (now (places .entry)) (now (lefts .entry)) (now (rights .entry))
+        (now (area .entry)) (sideOf side) n (now (bytes .entry)) (now (codes .entry)) (now (counts .entry)) len r ⌝ }
 {
     let mut i = 0;
     while i < len {
@@ -227,7 +234,8 @@ fn code_at(
     codes: &[u32],
 ) -> u32
     requires { ⌜ CodeReady (now file) (now places) (now lefts) (now rights) (now area) n (now bytes) i (now codes) ⌝ }
-    ensures { λ r. ⌜ CodeIs (now (file .entry)) (now (places .entry)) (now (lefts .entry)) (now (rights .entry)) (now (area .entry)) (sideOf side) n (now (bytes .entry)) i (now (codes .entry)) r ⌝ }
+    ensures { λ r. ⌜ CodeIs (now (file .entry)) (now (places .entry)) (now (lefts .entry)) (now (rights .entry))
+        (now (area .entry)) (sideOf side) n (now (bytes .entry)) i (now (codes .entry)) r ⌝ }
 {
     match side {
         Side::Append => { end_code_at(file, places, lefts, rights, area, n, bytes, i, codes, true) }
@@ -252,8 +260,11 @@ pub fn push_core(
     codes: &mut [u32],
     counts: &mut [u32],
 )
-    requires { ⌜ PushReady (now file) (now places) (now lefts) (now rights) (now area) n i (now bytes) (now codes) (now counts) ⌝ }
-    ensures { λ r. ⌜ Pushed (now (file .entry)) (now (places .entry)) (now (lefts .entry)) (now (rights .entry)) (now (area .entry)) (sideOf side) n i byte (now (bytes .entry)) (now (codes .entry)) (now (counts .entry)) (now (bytes .exit)) (now (codes .exit)) (now (counts .exit)) ⌝ }
+    requires { ⌜ PushReady (now file) (now places) (now lefts) (now rights) (now area) n i (now bytes) (now codes)
+        (now counts) ⌝ }
+    ensures { λ r. ⌜ Pushed (now (file .entry)) (now (places .entry)) (now (lefts .entry)) (now (rights .entry))
+        (now (area .entry)) (sideOf side) n i byte (now (bytes .entry)) (now (codes .entry)) (now (counts .entry))
+        (now (bytes .exit)) (now (codes .exit)) (now (counts .exit)) ⌝ }
 {
     bytes[i] = byte;
     let code = code_at(side, file, places, lefts, rights, area, n, bytes, i, codes);
@@ -276,8 +287,11 @@ pub fn extend_core(
     counts: &mut [u32],
     typed: &[u8],
 )
-    requires { ⌜ ExtendReady (now file) (now places) (now lefts) (now rights) (now area) n len (now bytes) (now codes) (now counts) (now typed) ⌝ }
-    ensures { λ r. ⌜ ExtendedBy (now (file .entry)) (now (places .entry)) (now (lefts .entry)) (now (rights .entry)) (now (area .entry)) (sideOf side) n len (now (bytes .entry)) (now (codes .entry)) (now (counts .entry)) (now (typed .entry)) (now (bytes .exit)) (now (codes .exit)) (now (counts .exit)) ⌝ }
+    requires { ⌜ ExtendReady (now file) (now places) (now lefts) (now rights) (now area) n len (now bytes)
+        (now codes) (now counts) (now typed) ⌝ }
+    ensures { λ r. ⌜ ExtendedBy (now (file .entry)) (now (places .entry)) (now (lefts .entry)) (now (rights .entry))
+        (now (area .entry)) (sideOf side) n len (now (bytes .entry)) (now (codes .entry)) (now (counts .entry))
+        (now (typed .entry)) (now (bytes .exit)) (now (codes .exit)) (now (counts .exit)) ⌝ }
 {
     let mut k = 0;
     while k < typed.len() {
@@ -316,7 +330,8 @@ fn columns_in_form(
     reading: &mut [u8],
 ) -> Form
     requires { ⌜ Sizes (now bytes) (now codes) (now counts) (now reading) ⌝ }
-    ensures { λ r. ⌜ Checked (now (file .entry)) (now (places .entry)) (now (lefts .entry)) (now (rights .entry)) (now (prefixes .entry)) (now (area .entry)) (sideOf side) len size (now (bytes .entry)) (now (codes .entry)) (now (counts .entry)) (now (reading .exit)) r ⌝ }
+    ensures { λ r. ⌜ Checked (lent file places lefts rights prefixes area)
+        (sideOf side) len size (before bytes) (before codes) (before counts) (after reading) r ⌝ }
 {
     let Form::Rows(n) = tables::tables_in_form(file, places, lefts, rights, prefixes, area) else {
         return Form::Out;
@@ -363,7 +378,9 @@ pub fn extend_columns(
     counts: &mut [u32; 4096],
     typed: &[u8],
 ) -> Answer
-    ensures { λ r. ⌜ ExtendedColumns (now (file .entry)) (now (places .entry)) (now (lefts .entry)) (now (rights .entry)) (now (prefixes .entry)) (now (area .entry)) (sideOf side) len size (now (bytes .entry)) (now (codes .entry)) (now (counts .entry)) (now (typed .entry)) r (now (bytes .exit)) (now (codes .exit)) (now (counts .exit)) ⌝ }
+    ensures { λ r. ⌜ ExtendedColumns (lent file places lefts rights prefixes area)
+        (sideOf side) len size (before bytes) (before codes) (before counts) (before typed) r (after bytes)
+        (after codes) (after counts) ⌝ }
 {
     if 4096 < typed.len() {
         return Answer::Refused(Cause::TooLong);
@@ -425,7 +442,8 @@ pub fn count_columns(
     codes: &[u32; 4096],
     counts: &[u32; 4096],
 ) -> Answer
-    ensures { λ r. ⌜ CountedColumns (now (file .entry)) (now (places .entry)) (now (lefts .entry)) (now (rights .entry)) (now (prefixes .entry)) (now (area .entry)) (sideOf side) len size (now (bytes .entry)) (now (codes .entry)) (now (counts .entry)) r ⌝ }
+    ensures { λ r. ⌜ CountedColumns (lent file places lefts rights prefixes area)
+        (sideOf side) len size (before bytes) (before codes) (before counts) r ⌝ }
 {
     let mut reading = [0u8; 4096];
     let Form::Rows(_) = columns_in_form(

@@ -5,10 +5,11 @@ use Rattle.backtrack_encoder.proofs.Running.{Running, running-start, ru
 use borrow.Author.Needs.{needs}
 use Rattle.backtrack_encoder.proofs.backtrack.Statement.{statement}
 use Rattle.backtrack_encoder.proofs.backtrack.Tie as tie
+use Rattle.tables.specs.Tables.{tables}
 
 abbrev Inv-loop : tie.InvT-loop
 Inv-loop file places lefts rights prefixes area n text work₀ dead₀ encoder₀ left₀ work dead encoder left =
-    Running file places lefts rights prefixes area n text work₀ left encoder work dead
+    Running (tables file places lefts rights prefixes area) n text work₀ left encoder work dead
 
 abbrev μ-loop : tie.MeasureT-loop
 μ-loop file places lefts rights prefixes area n text work₀ dead₀ encoder₀ left₀ work dead encoder left =
@@ -24,13 +25,13 @@ mul-left : tie.Need-mul-left Inv-loop μ-loop
 mul-left c = omega (arith, c .before .before .before .before .before .before .before .before .before .before .pre .short)
 
 loop-holds : tie.Need-loop-holds Inv-loop μ-loop
-loop-holds c = running-start _ _ _ _ _ _ _ _ _ _ _ (c .before .before .before .before .before .before .before .before .before .before .pre) (c .start .ensures) (c .before .all-set .ensures)
+loop-holds c = running-start _ _ _ _ _ _ (c .before .before .before .before .before .before .before .before .before .before .pre) (c .start .ensures) (c .before .all-set .ensures)
 
 same-length : tie.Need-same-length Inv-loop μ-loop
 same-length c = c .before .before .before .loop .inv .kept
 
 returns : tie.Need-returns Inv-loop μ-loop
-returns c = running-end _ _ _ _ _ _ _ _ _ _ _ _ _ (c .before .before .before .loop .inv) (λ i. c .before .before .before .before .before .before .before .shared-slice-known7 .given i .fits) (inr (c .if1 .taken))
+returns c = running-end _ _ _ _ _ _ _ _ (c .before .before .before .loop .inv) (λ i. c .before .before .before .before .before .before .before .shared-slice-known7 .given i .fits) (inr (c .if1 .taken))
 
 step-requires : tie.Need-step-requires Inv-loop μ-loop
 step-requires c κs = (c .before .before .before .before .before .loop .inv .text-ready, c .before .before .before .before .before .loop .inv .ready)
@@ -42,13 +43,13 @@ loop-less : tie.Need-loop-less Inv-loop μ-loop
 loop-less c = search needs
 
 loop-again : tie.Need-loop-again Inv-loop μ-loop
-loop-again c = running-step _ _ _ _ _ _ _ _ _ _ _ _ _ (c .before .before .before .before .before .before .before .before .loop .inv) _ _ _ (c .before .before .before .before .before .before .before .loop-test .taken) (c .before .before .step .ensures)
+loop-again c = running-step _ _ _ _ _ _ _ _ (c .before .before .before .before .before .before .before .before .loop .inv) _ _ _ (c .before .before .before .before .before .before .before .loop-test .taken) (c .before .before .step .ensures)
 
 same-length-2 : tie.Need-same-length-2 Inv-loop μ-loop
 same-length-2 c = c .before .loop .inv .kept
 
 returns-2 : tie.Need-returns-2 Inv-loop μ-loop
-returns-2 c = running-end _ _ _ _ _ _ _ _ _ _ _ _ _ (c .before .loop .inv) (λ i. c .before .before .before .before .before .shared-slice-known7 .given i .fits) (inl (omega (arith, c .loop-test .left)))
+returns-2 c = running-end _ _ _ _ _ _ _ _ (c .before .loop .inv) (λ i. c .before .before .before .before .before .shared-slice-known7 .given i .fits) (inl (omega (arith, c .loop-test .left)))
 
 pub backtrack-spec : {M : Type 1} → statement M
 backtrack-spec =

@@ -11,7 +11,7 @@ same-length : tie.Need-same-length
 same-length c = search needs
 
 returns : tie.Need-returns
-returns c = counted-codes _ _ _ _ _ _ _ _ _ _ _ (c .before .before .before .before .before .before .before .before .before .before .before .before .pre) (c .before .before .backtrack .ensures)
+returns c = counted-codes _ _ _ _ _ _ (c .before .before .before .before .before .before .before .before .before .before .before .before .pre) (c .before .before .backtrack .ensures)
 
 pub count-core-spec : {M : Type 1} → statement M
 count-core-spec = tie.close (tie.spec backtrack-requires same-length returns)

@@ -7,10 +7,11 @@ use Rattle.backtrack_encoder.proofs.Limiting.{Limiting, limiting-start,
 use borrow.Author.Needs.{needs}
 use Rattle.backtrack_encoder.proofs.count_till_limit_core.Statement.{statement}
 use Rattle.backtrack_encoder.proofs.count_till_limit_core.Tie as tie
+use Rattle.tables.specs.Tables.{tables}
 
 abbrev Inv-loop : tie.InvT-loop
 Inv-loop file places lefts rights prefixes area n text limit work₀ limit-with-buffer dead₀ encoder₀ steps₀ work dead encoder steps =
-    Limiting file places lefts rights prefixes area n text work₀ limit steps encoder work dead
+    Limiting (tables file places lefts rights prefixes area) n text work₀ limit steps encoder work dead
 
 abbrev μ-loop : tie.MeasureT-loop
 μ-loop file places lefts rights prefixes area n text limit work₀ limit-with-buffer dead₀ encoder₀ steps₀ work dead encoder steps =
@@ -29,7 +30,7 @@ mul-steps : tie.Need-mul-steps Inv-loop μ-loop
 mul-steps c = omega (arith, c .before .before .before .before .before .before .before .before .before .before .before .pre .short)
 
 loop-holds : tie.Need-loop-holds Inv-loop μ-loop
-loop-holds c = limiting-start _ _ _ _ _ _ _ _ _ _ _ _ (running-start _ _ _ _ _ _ _ _ _ _ _ (c .before .before .before .before .before .before .before .before .before .before .before .pre) (c .start .ensures) (c .before .all-set .ensures))
+loop-holds c = limiting-start _ _ _ _ _ _ _ (running-start _ _ _ _ _ _ (c .before .before .before .before .before .before .before .before .before .before .before .pre) (c .start .ensures) (c .before .all-set .ensures))
 
 within-requires : tie.Need-within-requires Inv-loop μ-loop
 within-requires c κs = search needs
@@ -38,7 +39,7 @@ same-length : tie.Need-same-length Inv-loop μ-loop
 same-length c = c .before .before .before .before .loop .inv .running .kept
 
 returns : tie.Need-returns Inv-loop μ-loop
-returns c = limiting-end _ _ _ _ _ _ _ _ _ _ _ _ _ _ (c .before .before .before .before .loop .inv) _ (inr (c .before .if1 .taken)) (c .within .ensures)
+returns c = limiting-end _ _ _ _ _ _ _ _ _ (c .before .before .before .before .loop .inv) _ (inr (c .before .if1 .taken)) (c .within .ensures)
 
 step-requires : tie.Need-step-requires Inv-loop μ-loop
 step-requires c κs = (c .before .before .before .before .before .loop .inv .running .text-ready, c .before .before .before .before .before .loop .inv .running .ready)
@@ -50,19 +51,19 @@ loop-less : tie.Need-loop-less Inv-loop μ-loop
 loop-less c = search needs
 
 loop-again : tie.Need-loop-again Inv-loop μ-loop
-loop-again c = limiting-next _ _ _ _ _ _ _ _ _ _ _ _ _ _ (c .before .before .before .before .before .before .before .before .before .before .loop .inv) (c .before .before .before .before .before .before .before .before .before .loop-test .taken) (c .before .before .before .before .before .before .before .if1 .left) _ _ _ (c .before .before .before .before .step .ensures) (inl (c .if2 .taken))
+loop-again c = limiting-next _ _ _ _ _ _ _ _ _ (c .before .before .before .before .before .before .before .before .before .before .loop .inv) (c .before .before .before .before .before .before .before .before .before .loop-test .taken) (c .before .before .before .before .before .before .before .if1 .left) _ _ _ (c .before .before .before .before .step .ensures) (inl (c .if2 .taken))
 
 same-length-2 : tie.Need-same-length-2 Inv-loop μ-loop
 same-length-2 c = c .before .before .before .before .before .step .ensures .work-length ∙ c .before .before .before .before .before .before .before .before .before .before .before .loop .inv .running .kept
 
 returns-2 : tie.Need-returns-2 Inv-loop μ-loop
-returns-2 c = limiting-over _ _ _ _ _ _ _ _ _ _ _ _ _ _ (c .before .before .before .before .before .before .before .before .before .before .before .loop .inv) (c .before .before .before .before .before .before .before .before .before .before .loop-test .taken) (c .before .before .before .before .before .before .before .before .if1 .left) _ _ _ (c .before .before .before .before .before .step .ensures) (c .before .if2 .left) (omega (arith, c .before .before .before .before .before .before .before .before .before .before .before .before .before .before .buffered .ensures, c .if3 .taken))
+returns-2 c = limiting-over _ _ _ _ _ _ _ _ _ (c .before .before .before .before .before .before .before .before .before .before .before .loop .inv) (c .before .before .before .before .before .before .before .before .before .before .loop-test .taken) (c .before .before .before .before .before .before .before .before .if1 .left) _ _ _ (c .before .before .before .before .before .step .ensures) (c .before .if2 .left) (omega (arith, c .before .before .before .before .before .before .before .before .before .before .before .before .before .before .buffered .ensures, c .if3 .taken))
 
 loop-less-2 : tie.Need-loop-less-2 Inv-loop μ-loop
 loop-less-2 c = search needs
 
 loop-again-2 : tie.Need-loop-again-2 Inv-loop μ-loop
-loop-again-2 c = limiting-next _ _ _ _ _ _ _ _ _ _ _ _ _ _ (c .before .before .before .before .before .before .before .before .before .before .before .loop .inv) (c .before .before .before .before .before .before .before .before .before .before .loop-test .taken) (c .before .before .before .before .before .before .before .before .if1 .left) _ _ _ (c .before .before .before .before .before .step .ensures) (inr (omega (arith, c .before .before .before .before .before .before .before .before .before .before .before .before .before .before .buffered .ensures, c .if3 .left)))
+loop-again-2 c = limiting-next _ _ _ _ _ _ _ _ _ (c .before .before .before .before .before .before .before .before .before .before .before .loop .inv) (c .before .before .before .before .before .before .before .before .before .before .loop-test .taken) (c .before .before .before .before .before .before .before .before .if1 .left) _ _ _ (c .before .before .before .before .before .step .ensures) (inr (omega (arith, c .before .before .before .before .before .before .before .before .before .before .before .before .before .before .buffered .ensures, c .if3 .left)))
 
 within-requires-2 : tie.Need-within-requires-2 Inv-loop μ-loop
 within-requires-2 c κs = search needs
@@ -71,7 +72,7 @@ same-length-3 : tie.Need-same-length-3 Inv-loop μ-loop
 same-length-3 c = c .before .before .loop .inv .running .kept
 
 returns-3 : tie.Need-returns-3 Inv-loop μ-loop
-returns-3 c = limiting-end _ _ _ _ _ _ _ _ _ _ _ _ _ _ (c .before .before .loop .inv) _ (inl (omega (arith, c .before .loop-test .left))) (c .within2 .ensures)
+returns-3 c = limiting-end _ _ _ _ _ _ _ _ _ (c .before .before .loop .inv) _ (inl (omega (arith, c .before .loop-test .left))) (c .within2 .ensures)
 
 pub count-till-limit-core-spec : {M : Type 1} → statement M
 count-till-limit-core-spec =

@@ -17,7 +17,7 @@ same-length-2 : tie.Need-same-length-2
 same-length-2 c = search needs
 
 returns : tie.Need-returns
-returns c = copied-codes _ _ _ _ _ _ _ _ _ _ _ _ _ (c .before .before .before .before .before .before .before .before .before .before .before .before .before .before .before .before .before .before .pre) (c .before .before .before .before .before .before .before .backtrack .ensures) (c .before .before .copy-codes .ensures)
+returns c = copied-codes _ _ _ _ _ _ _ _ (c .before .before .before .before .before .before .before .before .before .before .before .before .before .before .before .before .before .before .pre) (c .before .before .before .before .before .before .before .backtrack .ensures) (c .before .before .copy-codes .ensures)
 
 pub encode-via-backtracking-core-spec : {M : Type 1} → statement M
 encode-via-backtracking-core-spec =

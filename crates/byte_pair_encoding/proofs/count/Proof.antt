@@ -12,7 +12,7 @@ enum-known-n : tie.Need-enum-known-n
 enum-known-n c = search needs
 
 count-core-requires : tie.Need-count-core-requires
-count-core-requires c κs = count-ready _ _ _ _ _ _ _ _ _ (sym (c .before .before .before .before .checked .ensures) ∙ c .before .before .n .given .1)
+count-core-requires c κs = count-ready _ _ _ _ (sym (c .before .before .before .before .checked .ensures) ∙ c .before .before .n .given .1)
 
 enum-known-cause : tie.Need-enum-known-cause
 enum-known-cause c = search needs
@@ -21,13 +21,13 @@ same-length : tie.Need-same-length
 same-length c = search needs
 
 returns : tie.Need-returns
-returns c = text-counted _ _ _ _ _ _ _ _ _ (sym (c .before .before .before .before .before .before .before .checked .ensures) ∙ c .before .before .before .before .before .n .given .1) _ _ (c .before .before .count-core .ensures)
+returns c = text-counted _ _ _ _ (sym (c .before .before .before .before .before .before .before .checked .ensures) ∙ c .before .before .before .before .before .n .given .1) _ _ (c .before .before .count-core .ensures)
 
 same-length-2 : tie.Need-same-length-2
 same-length-2 c = search needs
 
 returns-2 : tie.Need-returns-2
-returns-2 c = nothing-counted _ _ _ _ _ _ _ _ _ (sym (c .before .before .before .checked .ensures) ∙ c .before .cause .given .1)
+returns-2 c = nothing-counted _ _ _ _ (sym (c .before .before .before .checked .ensures) ∙ c .before .cause .given .1)
 
 pub count-spec : {M : Type 1} → statement M
 count-spec =

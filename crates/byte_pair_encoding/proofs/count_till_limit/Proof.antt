@@ -12,7 +12,7 @@ enum-known-n : tie.Need-enum-known-n
 enum-known-n c = search needs
 
 count-till-limit-core-requires : tie.Need-count-till-limit-core-requires
-count-till-limit-core-requires c κs = count-ready _ _ _ _ _ _ _ _ _ (sym (c .before .before .before .before .checked .ensures) ∙ c .before .before .n .given .1)
+count-till-limit-core-requires c κs = count-ready _ _ _ _ (sym (c .before .before .before .before .checked .ensures) ∙ c .before .before .n .given .1)
 
 told-requires : tie.Need-told-requires
 told-requires c κs = search needs
@@ -24,13 +24,13 @@ same-length : tie.Need-same-length
 same-length c = search needs
 
 returns : tie.Need-returns
-returns c = text-limited _ _ _ _ _ _ _ _ _ (sym (c .before .before .before .before .before .before .before .before .checked .ensures) ∙ c .before .before .before .before .before .before .n .given .1) _ _ _ _ (c .before .before .before .count-till-limit-core .ensures) (c .told .ensures)
+returns c = text-limited _ _ _ _ (sym (c .before .before .before .before .before .before .before .before .checked .ensures) ∙ c .before .before .before .before .before .before .n .given .1) _ _ _ _ (c .before .before .before .count-till-limit-core .ensures) (c .told .ensures)
 
 same-length-2 : tie.Need-same-length-2
 same-length-2 c = search needs
 
 returns-2 : tie.Need-returns-2
-returns-2 c = nothing-limited _ _ _ _ _ _ _ _ _ (sym (c .before .before .before .checked .ensures) ∙ c .before .cause .given .1) _
+returns-2 c = nothing-limited _ _ _ _ (sym (c .before .before .before .checked .ensures) ∙ c .before .cause .given .1) _
 
 pub count-till-limit-spec : {M : Type 1} → statement M
 count-till-limit-spec =

@@ -20,7 +20,7 @@ same-length-2 : tie.Need-same-length-2
 same-length-2 c = search needs
 
 returns : tie.Need-returns
-returns c = send-refused _ _ _ _ _ _ _ _ _ _ _ _ _ (c .before .before .before .before .before .before .before .encode-via-backtracking .ensures) _ (c .before .sending2 .given .1)
+returns c = send-refused _ _ _ _ _ _ _ _ (c .before .before .before .before .before .before .before .encode-via-backtracking .ensures) _ (c .before .sending2 .given .1)
 
 count-requires : tie.Need-count-requires
 count-requires c κs = search needs
@@ -38,7 +38,7 @@ same-length-4 : tie.Need-same-length-4
 same-length-4 c = search needs
 
 returns-2 : tie.Need-returns-2
-returns-2 c = count-refused _ _ _ _ _ _ _ _ _ _ _ _ _ (c .before .before .before .before .before .before .before .before .before .before .before .before .before .before .encode-via-backtracking .ensures) _ (c .before .before .before .before .before .before .before .before .sending .given .1) _ _ (c .before .before .before .before .before .count .ensures) _ (c .before .counting2 .given .1)
+returns-2 c = count-refused _ _ _ _ _ _ _ _ (c .before .before .before .before .before .before .before .before .before .before .before .before .before .before .encode-via-backtracking .ensures) _ (c .before .before .before .before .before .before .before .before .sending .given .1) _ _ (c .before .before .before .before .before .count .ensures) _ (c .before .counting2 .given .1)
 
 same-length-5 : tie.Need-same-length-5
 same-length-5 c = search needs
@@ -47,7 +47,7 @@ same-length-6 : tie.Need-same-length-6
 same-length-6 c = search needs
 
 returns-3 : tie.Need-returns-3
-returns-3 c = count-differs _ _ _ _ _ _ _ _ _ _ _ _ _ (c .before .before .before .before .before .before .before .before .before .before .before .before .before .before .before .encode-via-backtracking .ensures) _ (c .before .before .before .before .before .before .before .before .before .sending .given .1) _ _ (c .before .before .before .before .before .before .count .ensures) _ (c .before .before .counting .given .1) (c .if1 .taken)
+returns-3 c = count-differs _ _ _ _ _ _ _ _ (c .before .before .before .before .before .before .before .before .before .before .before .before .before .before .before .encode-via-backtracking .ensures) _ (c .before .before .before .before .before .before .before .before .before .sending .given .1) _ _ (c .before .before .before .before .before .before .count .ensures) _ (c .before .before .counting .given .1) (c .if1 .taken)
 
 typed-count-requires : tie.Need-typed-count-requires
 typed-count-requires c κs = search needs
@@ -62,7 +62,7 @@ same-length-9 : tie.Need-same-length-9
 same-length-9 c = search needs
 
 returns-4 : tie.Need-returns-4
-returns-4 c = typing-differs _ _ _ _ _ _ _ _ _ _ _ _ _ (c .before .before .before .before .before .before .before .before .before .before .before .before .before .before .before .before .before .before .before .before .encode-via-backtracking .ensures) _ (c .before .before .before .before .before .before .before .before .before .before .before .before .before .before .sending .given .1) _ _ (c .before .before .before .before .before .before .before .before .before .before .before .count .ensures) _ (c .before .before .before .before .before .before .before .counting .given .1) (c .before .before .before .before .before .if1 .left) _ _ (c .before .before .before .typed-count .ensures) (c .if2 .taken)
+returns-4 c = typing-differs _ _ _ _ _ _ _ _ (c .before .before .before .before .before .before .before .before .before .before .before .before .before .before .before .before .before .before .before .before .encode-via-backtracking .ensures) _ (c .before .before .before .before .before .before .before .before .before .before .before .before .before .before .sending .given .1) _ _ (c .before .before .before .before .before .before .before .before .before .before .before .count .ensures) _ (c .before .before .before .before .before .before .before .counting .given .1) (c .before .before .before .before .before .if1 .left) _ _ (c .before .before .before .typed-count .ensures) (c .if2 .taken)
 
 same-length-10 : tie.Need-same-length-10
 same-length-10 c = search needs
@@ -74,7 +74,7 @@ same-length-12 : tie.Need-same-length-12
 same-length-12 c = search needs
 
 returns-5 : tie.Need-returns-5
-returns-5 c = all-agree _ _ _ _ _ _ _ _ _ _ _ _ _ (c .before .before .before .before .before .before .before .before .before .before .before .before .before .before .before .before .before .before .before .before .encode-via-backtracking .ensures) _ (c .before .before .before .before .before .before .before .before .before .before .before .before .before .before .sending .given .1) _ _ (c .before .before .before .before .before .before .before .before .before .before .before .count .ensures) _ (c .before .before .before .before .before .before .before .counting .given .1) (c .before .before .before .before .before .if1 .left) _ _ (c .before .before .before .typed-count .ensures) (c .if2 .left)
+returns-5 c = all-agree _ _ _ _ _ _ _ _ (c .before .before .before .before .before .before .before .before .before .before .before .before .before .before .before .before .before .before .before .before .encode-via-backtracking .ensures) _ (c .before .before .before .before .before .before .before .before .before .before .before .before .before .before .sending .given .1) _ _ (c .before .before .before .before .before .before .before .before .before .before .before .count .ensures) _ (c .before .before .before .before .before .before .before .counting .given .1) (c .before .before .before .before .before .if1 .left) _ _ (c .before .before .before .typed-count .ensures) (c .if2 .left)
 
 pub sender-against-counters-spec : {M : Type 1} → statement M
 sender-against-counters-spec =

@@ -11,7 +11,7 @@ same-length : tie.Need-same-length
 same-length c = search needs
 
 returns : tie.Need-returns
-returns c = typed-none _ _ _ _ _ _ _ _ _ _ (c .before .before .before .type-text .ensures) (c .if1 .taken)
+returns c = typed-none _ _ _ _ _ (c .before .before .before .type-text .ensures) (c .if1 .taken)
 
 sub-wide : tie.Need-sub-wide
 sub-wide c = search needs
@@ -29,7 +29,7 @@ same-length-2 : tie.Need-same-length-2
 same-length-2 c = search needs
 
 returns-2 : tie.Need-returns-2
-returns-2 c = typed-last _ _ _ _ _ _ _ _ _ _ (c .before .before .before .before .before .type-text .ensures) (c .before .before .if1 .left) _ (c .wide .ensures .is)
+returns-2 c = typed-last _ _ _ _ _ (c .before .before .before .before .before .type-text .ensures) (c .before .before .if1 .left) _ (c .wide .ensures .is)
 
 pub typed-count-spec : {M : Type 1} → statement M
 typed-count-spec = tie.close (tie.spec type-text-requires same-length returns sub-wide mul-wide slice-read-wide wide-requires same-length-2 returns-2)

@@ -7,19 +7,19 @@ use Rattle.dictionary.proofs.clear_all.Statement.{statement}
 use Rattle.dictionary.proofs.clear_all.Tie as tie
 
 clear-requires : tie.Need-clear-requires
-clear-requires c κs = omega (arith, large _ _ (c .before .before .before .before .before .before .pre) .places-room)
+clear-requires c κs = omega (arith, large _ _ (c .before .before .before .before .before .before .before .pre) .places-room)
 
 clear-requires-2 : tie.Need-clear-requires-2
-clear-requires-2 c κs = omega (arith, large _ _ (c .before .before .before .before .before .before .before .before .before .before .pre) .lefts-room)
+clear-requires-2 c κs = omega (arith, large _ _ (c .before .before .before .before .before .before .before .before .before .before .before .pre) .lefts-room)
 
 clear-requires-3 : tie.Need-clear-requires-3
-clear-requires-3 c κs = omega (arith, large _ _ (c .before .before .before .before .before .before .before .before .before .before .before .before .before .before .pre) .rights-room)
+clear-requires-3 c κs = omega (arith, large _ _ (c .before .before .before .before .before .before .before .before .before .before .before .before .before .before .before .pre) .rights-room)
 
 clear-requires-4 : tie.Need-clear-requires-4
-clear-requires-4 c κs = omega (arith, large _ _ (c .before .before .before .before .before .before .before .before .before .before .before .before .before .before .before .before .before .before .pre) .prefixes-room)
+clear-requires-4 c κs = omega (arith, large _ _ (c .before .before .before .before .before .before .before .before .before .before .before .before .before .before .before .before .before .before .before .pre) .prefixes-room)
 
 clear-requires-5 : tie.Need-clear-requires-5
-clear-requires-5 c κs = omega (arith, large _ _ (c .before .before .before .before .before .before .before .before .before .before .before .before .before .before .before .before .before .before .before .before .before .before .pre) .area-room)
+clear-requires-5 c κs = omega (arith, large _ _ (c .before .before .before .before .before .before .before .before .before .before .before .before .before .before .before .before .before .before .before .before .before .before .before .pre) .area-room)
 
 same-length : tie.Need-same-length
 same-length c = search needs
@@ -37,7 +37,7 @@ same-length-5 : tie.Need-same-length-5
 same-length-5 c = search needs
 
 returns : tie.Need-returns
-returns c = all-cleared _ _ _ _ _ _ _ _ _ _ _ (c .before .before .before .before .before .before .before .before .before .before .before .before .before .before .before .before .before .before .clear .ensures) (c .before .before .before .before .before .before .before .before .before .before .before .before .before .before .clear2 .ensures) (c .before .before .before .before .before .before .before .before .before .before .clear3 .ensures) (c .before .before .before .before .before .before .clear4 .ensures) (c .before .before .clear5 .ensures)
+returns c = all-cleared _ _ _ _ _ _ _ (c .before .before .before .before .before .before .before .before .before .before .before .before .before .before .before .before .before .before .clear .ensures) (c .before .before .before .before .before .before .before .before .before .before .before .before .before .before .clear2 .ensures) (c .before .before .before .before .before .before .before .before .before .before .clear3 .ensures) (c .before .before .before .before .before .before .clear4 .ensures) (c .before .before .clear5 .ensures)
 
 pub clear-all-spec : {M : Type 1} → statement M
 clear-all-spec =

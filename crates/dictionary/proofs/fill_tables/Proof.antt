@@ -6,10 +6,10 @@ use Rattle.dictionary.proofs.fill_tables.Statement.{statement}
 use Rattle.dictionary.proofs.fill_tables.Tie as tie
 
 fill-rows-requires : tie.Need-fill-rows-requires
-fill-rows-requires c κs = rows-fit _ _ _ _ _ _ _ _ (c .before .before .before .before .before .before .before .before .before .pre)
+fill-rows-requires c κs = rows-fit _ _ _ (c .before .before .before .before .before .before .before .before .before .pre)
 
 cast-t18 : tie.Need-cast-t18
-cast-t18 c = omega (arith, few _ _ _ _ _ _ _ _ (c .before .before .before .before .before .before .before .before .before .before .before .before .before .before .before .before .before .pre))
+cast-t18 c = omega (arith, few _ _ _ (c .before .before .before .before .before .before .before .before .before .before .before .before .before .before .before .before .before .pre))
 
 same-length : tie.Need-same-length
 same-length c = search needs
@@ -21,13 +21,13 @@ same-length-3 : tie.Need-same-length-3
 same-length-3 c = search needs
 
 returns : tie.Need-returns
-returns c = hash-filled _ _ _ _ _ _ _ _ (c .before .before .before .before .before .before .before .before .before .before .before .before .before .before .before .before .before .pre) _ _ _ _ (c .before .before .before .before .before .before .before .fill-rows .ensures) (c .if1 .taken)
+returns c = hash-filled _ _ _ (c .before .before .before .before .before .before .before .before .before .before .before .before .before .before .before .before .before .pre) _ _ _ _ (c .before .before .before .before .before .before .before .fill-rows .ensures) (c .if1 .taken)
 
 fill-parts-requires : tie.Need-fill-parts-requires
-fill-parts-requires c κs = parts-fit _ _ _ _ _ _ _ _ (c .before .before .before .before .before .before .before .before .before .before .before .before .before .before .before .before .before .before .before .before .before .before .pre) _ _ _ _ (c .before .before .before .before .before .before .before .before .before .before .before .before .fill-rows .ensures) (omega arith)
+fill-parts-requires c κs = parts-fit _ _ _ (c .before .before .before .before .before .before .before .before .before .before .before .before .before .before .before .before .before .before .before .before .before .before .pre) _ _ _ _ (c .before .before .before .before .before .before .before .before .before .before .before .before .fill-rows .ensures) (omega arith)
 
 cast-t30 : tie.Need-cast-t30
-cast-t30 c = omega (arith, few _ _ _ _ _ _ _ _ (c .before .before .before .before .before .before .before .before .before .before .before .before .before .before .before .before .before .before .before .before .before .before .before .before .before .before .before .before .before .before .pre))
+cast-t30 c = omega (arith, few _ _ _ (c .before .before .before .before .before .before .before .before .before .before .before .before .before .before .before .before .before .before .before .before .before .before .before .before .before .before .before .before .before .before .pre))
 
 same-length-4 : tie.Need-same-length-4
 same-length-4 c = search needs
@@ -45,7 +45,7 @@ same-length-8 : tie.Need-same-length-8
 same-length-8 c = search needs
 
 returns-2 : tie.Need-returns-2
-returns-2 c = parts-filled _ _ _ _ _ _ _ _ (c .before .before .before .before .before .before .before .before .before .before .before .before .before .before .before .before .before .before .before .before .before .before .before .before .before .before .before .before .before .before .pre) _ _ _ _ (c .before .before .before .before .before .before .before .before .before .before .before .before .before .before .before .before .before .before .before .before .fill-rows .ensures) (omega arith) _ _ _ _ (c .before .before .before .before .before .before .before .fill-parts .ensures) (c .if2 .taken)
+returns-2 c = parts-filled _ _ _ (c .before .before .before .before .before .before .before .before .before .before .before .before .before .before .before .before .before .before .before .before .before .before .before .before .before .before .before .before .before .before .pre) _ _ _ _ (c .before .before .before .before .before .before .before .before .before .before .before .before .before .before .before .before .before .before .before .before .fill-rows .ensures) (omega arith) _ _ _ _ (c .before .before .before .before .before .before .before .fill-parts .ensures) (c .if2 .taken)
 
 same-length-9 : tie.Need-same-length-9
 same-length-9 c = search needs
@@ -63,7 +63,7 @@ same-length-13 : tie.Need-same-length-13
 same-length-13 c = search needs
 
 returns-3 : tie.Need-returns-3
-returns-3 c = rows-filled _ _ _ _ _ _ _ _ (c .before .before .before .before .before .before .before .before .before .before .before .before .before .before .before .before .before .before .before .before .before .before .before .before .before .before .before .before .before .before .pre) _ _ _ _ (c .before .before .before .before .before .before .before .before .before .before .before .before .before .before .before .before .before .before .before .before .fill-rows .ensures) (omega arith) _ _ _ _ (c .before .before .before .before .before .before .before .fill-parts .ensures) (c .if2 .left)
+returns-3 c = rows-filled _ _ _ (c .before .before .before .before .before .before .before .before .before .before .before .before .before .before .before .before .before .before .before .before .before .before .before .before .before .before .before .before .before .before .pre) _ _ _ _ (c .before .before .before .before .before .before .before .before .before .before .before .before .before .before .before .before .before .before .before .before .fill-rows .ensures) (omega arith) _ _ _ _ (c .before .before .before .before .before .before .before .fill-parts .ensures) (c .if2 .left)
 
 pub fill-tables-spec : {M : Type 1} → statement M
 fill-tables-spec =

@@ -6,7 +6,7 @@ use Rattle.dictionary.proofs.from_dictionary.Statement.{statement}
 use Rattle.dictionary.proofs.from_dictionary.Tie as tie
 
 returns : tie.Need-returns
-returns c = refused-factor _ _ _ (c .if1 .taken)
+returns c = refused-factor _ _ (c .if1 .taken)
 
 check-file-requires : tie.Need-check-file-requires
 check-file-requires c κs = search needs
@@ -36,13 +36,13 @@ same-length-5 : tie.Need-same-length-5
 same-length-5 c = search needs
 
 returns-2 : tie.Need-returns-2
-returns-2 c = refused-short _ _ _ (c .before .before .before .before .before .before .before .before .before .before .before .if1 .left) _ (sym (c .before .before .before .before .before .before .before .before .checked2 .given .1) ∙ c .before .before .before .before .before .before .before .before .before .before .check-file .ensures) (sym (c .before .are-short .ensures) ∙ c .if2 .taken)
+returns-2 c = refused-short _ _ (c .before .before .before .before .before .before .before .before .before .before .before .if1 .left) _ (sym (c .before .before .before .before .before .before .before .before .checked2 .given .1) ∙ c .before .before .before .before .before .before .before .before .before .before .check-file .ensures) (sym (c .before .are-short .ensures) ∙ c .if2 .taken)
 
 build-rows-requires : tie.Need-build-rows-requires
-build-rows-requires c κs = buildable _ _ _ (c .before .before .before .before .before .before .before .before .before .before .before .before .before .before .before .before .if1 .left) _ (sym (c .before .before .before .before .before .before .before .before .before .before .before .before .before .checked2 .given .1) ∙ c .before .before .before .before .before .before .before .before .before .before .before .before .before .before .before .check-file .ensures) (sym (c .before .before .before .before .before .before .are-short .ensures) ∙ c .before .before .before .before .before .if2 .left)
+build-rows-requires c κs = buildable _ _ (c .before .before .before .before .before .before .before .before .before .before .before .before .before .before .before .before .if1 .left) _ (sym (c .before .before .before .before .before .before .before .before .before .before .before .before .before .checked2 .given .1) ∙ c .before .before .before .before .before .before .before .before .before .before .before .before .before .before .before .check-file .ensures) (sym (c .before .before .before .before .before .before .are-short .ensures) ∙ c .before .before .before .before .before .if2 .left)
 
 returns-3 : tie.Need-returns-3
-returns-3 c = refused-file _ _ _ (c .before .before .before .before .if1 .left) _ (sym (c .before .checked .given .1) ∙ c .before .before .before .check-file .ensures)
+returns-3 c = refused-file _ _ (c .before .before .before .before .if1 .left) _ (sym (c .before .checked .given .1) ∙ c .before .before .before .check-file .ensures)
 
 same-length-6 : tie.Need-same-length-6
 same-length-6 c = search needs

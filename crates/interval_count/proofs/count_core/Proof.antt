@@ -14,13 +14,13 @@ part-count-piece-end : tie.Need-part-count-piece-end
 part-count-piece-end c = search needs
 
 count-piece-requires : tie.Need-count-piece-requires
-count-piece-requires c κs = piece-ready _ _ _ _ _ _ _ _ _ _ _ _ _ _ _ (c .before .before .before .before .before .before .before .before .before .before .before .before .before .before .pre)
+count-piece-requires c κs = piece-ready _ _ _ _ _ _ _ _ _ _ (c .before .before .before .before .before .before .before .before .before .before .before .before .before .before .pre)
 
 same-length : tie.Need-same-length
 same-length c = search needs
 
 returns : tie.Need-returns
-returns c = piece-counted _ _ _ _ _ _ _ _ _ _ _ _ _ _ _ (c .before .before .before .before .before .before .before .before .before .before .before .before .before .before .before .before .before .pre) _ _ (c .before .before .count-piece .ensures)
+returns c = piece-counted _ _ _ _ _ _ _ _ _ _ (c .before .before .before .before .before .before .before .before .before .before .before .before .before .before .before .before .before .pre) _ _ (c .before .before .count-piece .ensures)
 
 pub count-core-spec : {M : Type 1} → statement M
 count-core-spec =

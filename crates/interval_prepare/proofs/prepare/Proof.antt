@@ -6,7 +6,7 @@ use Rattle.interval_prepare.proofs.prepare.Statement.{statement}
 use Rattle.interval_prepare.proofs.prepare.Tie as tie
 
 returns : tie.Need-returns
-returns c = refused-long _ _ _ _ _ _ _ _ _ _ _ _ (c .if1 .taken)
+returns c = refused-long _ _ _ _ _ _ _ (c .if1 .taken)
 
 is-too-short-requires : tie.Need-is-too-short-requires
 is-too-short-requires c κs = search needs
@@ -27,7 +27,7 @@ same-length-5 : tie.Need-same-length-5
 same-length-5 c = search needs
 
 returns-2 : tie.Need-returns-2
-returns-2 c = refused-short _ _ _ _ _ _ _ _ _ _ _ _ (c .before .before .before .before .before .before .before .if1 .left) (sym (c .before .is-too-short .ensures) ∙ c .if2 .taken)
+returns-2 c = refused-short _ _ _ _ _ _ _ (c .before .before .before .before .before .before .before .if1 .left) (sym (c .before .is-too-short .ensures) ∙ c .if2 .taken)
 
 tables-in-form-requires : tie.Need-tables-in-form-requires
 tables-in-form-requires c κs = search needs
@@ -54,10 +54,10 @@ same-length-10 : tie.Need-same-length-10
 same-length-10 c = search needs
 
 returns-3 : tie.Need-returns-3
-returns-3 c = refused-out _ _ _ _ _ _ _ _ _ _ _ _ (c .before .before .before .before .before .before .before .before .before .before .if1 .left) (sym (c .before .before .before .before .is-too-short .ensures) ∙ c .before .before .before .if2 .left) (sym (c .before .before .tables-in-form .ensures) ∙ c .enum-told .given .1)
+returns-3 c = refused-out _ _ _ _ _ _ _ (c .before .before .before .before .before .before .before .before .before .before .if1 .left) (sym (c .before .before .before .before .is-too-short .ensures) ∙ c .before .before .before .if2 .left) (sym (c .before .before .tables-in-form .ensures) ∙ c .enum-told .given .1)
 
 prepare-core-requires : tie.Need-prepare-core-requires
-prepare-core-requires c κs = core-ready _ _ _ _ _ _ _ _ _ _ _ _ (c .before .before .before .before .before .before .before .before .before .before .before .before .before .before .before .before .if1 .left) (sym (c .before .before .before .before .before .before .before .before .before .before .is-too-short .ensures) ∙ c .before .before .before .before .before .before .before .before .before .if2 .left) _ (sym (c .before .before .before .before .before .before .before .before .tables-in-form .ensures) ∙ c .before .before .before .before .before .before .n .given .1)
+prepare-core-requires c κs = core-ready _ _ _ _ _ _ _ (c .before .before .before .before .before .before .before .before .before .before .before .before .before .before .before .before .if1 .left) (sym (c .before .before .before .before .before .before .before .before .before .before .is-too-short .ensures) ∙ c .before .before .before .before .before .before .before .before .before .if2 .left) _ (sym (c .before .before .before .before .before .before .before .before .tables-in-form .ensures) ∙ c .before .before .before .before .before .before .n .given .1)
 
 same-length-11 : tie.Need-same-length-11
 same-length-11 c = search needs
@@ -75,7 +75,7 @@ same-length-15 : tie.Need-same-length-15
 same-length-15 c = search needs
 
 returns-4 : tie.Need-returns-4
-returns-4 c = prepared _ _ _ _ _ _ _ _ _ _ _ _ (c .before .before .before .before .before .before .before .before .before .before .before .before .before .before .before .before .before .before .before .before .before .before .before .before .before .before .before .if1 .left) (sym (c .before .before .before .before .before .before .before .before .before .before .before .before .before .before .before .before .before .before .before .before .before .is-too-short .ensures) ∙ c .before .before .before .before .before .before .before .before .before .before .before .before .before .before .before .before .before .before .before .before .if2 .left) _ (sym (c .before .before .before .before .before .before .before .before .before .before .before .before .before .before .before .before .before .before .before .tables-in-form .ensures) ∙ c .before .before .before .before .before .before .before .before .before .before .before .before .before .before .before .before .before .n .given .1) _ _ _ _ _ (c .before .before .before .before .before .before .before .before .before .before .prepare-core .ensures)
+returns-4 c = prepared _ _ _ _ _ _ _ (c .before .before .before .before .before .before .before .before .before .before .before .before .before .before .before .before .before .before .before .before .before .before .before .before .before .before .before .if1 .left) (sym (c .before .before .before .before .before .before .before .before .before .before .before .before .before .before .before .before .before .before .before .before .before .is-too-short .ensures) ∙ c .before .before .before .before .before .before .before .before .before .before .before .before .before .before .before .before .before .before .before .before .if2 .left) _ (sym (c .before .before .before .before .before .before .before .before .before .before .before .before .before .before .before .before .before .before .before .tables-in-form .ensures) ∙ c .before .before .before .before .before .before .before .before .before .before .before .before .before .before .before .before .before .n .given .1) _ _ _ _ _ (c .before .before .before .before .before .before .before .before .before .before .prepare-core .ensures)
 
 pub prepare-spec : {M : Type 1} → statement M
 prepare-spec =

@@ -1,6 +1,6 @@
 -- `merge_encoder::encode_via_bitfield_core` meets its contract, by the laws of `Merging`. Assumes nothing.
 use native.Mathlib.Omega.{arith}
-use Rattle.merge_encoder.proofs.Merging.{tables, fill-ready, encoded}
+use Rattle.merge_encoder.proofs.Merging.{joins-ready, fill-ready, encoded}
 use borrow.Author.Needs.{needs}
 use Rattle.merge_encoder.proofs.encode_via_bitfield_core.Statement.{statement}
 use Rattle.merge_encoder.proofs.encode_via_bitfield_core.Tie as tie
@@ -15,7 +15,7 @@ fill-keys-requires : tie.Need-fill-keys-requires
 fill-keys-requires c κs = fill-ready _ _ _ _ _ _ _ _ _ (c .before .before .before .before .before .before .before .before .before .before .before .before .before .before .before .before .before .pre) _ (c .before .before .before .before .before .before .fill-byte-codes .ensures)
 
 merge-requires : tie.Need-merge-requires
-merge-requires c κs = (tables _ _ _ _ _ _ _ _ _ (c .before .before .before .before .before .before .before .before .before .before .before .before .before .before .before .before .before .before .before .before .before .before .before .pre), (c .before .before .before .before .before .fill-keys .ensures .state _ (c .before .before .before .before .before .before .before .before .before .before .before .before .before .before .all-set .ensures), c .before .before .before .before .before .fill-keys .ensures .waiting))
+merge-requires c κs = (joins-ready _ _ _ _ _ _ _ _ _ (c .before .before .before .before .before .before .before .before .before .before .before .before .before .before .before .before .before .before .before .before .before .before .before .pre), (c .before .before .before .before .before .fill-keys .ensures .state _ (c .before .before .before .before .before .before .before .before .before .before .before .before .before .before .all-set .ensures), c .before .before .before .before .before .fill-keys .ensures .waiting))
 
 gather-requires : tie.Need-gather-requires
 gather-requires c κs = (omega (arith, c .before .before .before .before .before .before .before .before .before .before .before .before .before .before .before .before .before .before .before .before .before .before .before .before .before .before .before .before .before .pre .work-room, c .before .before .before .before .before .before .before .before .before .before .before .before .before .before .before .before .before .before .fill-byte-codes .ensures .work-length, c .before .before .before .before .before .merge .ensures .work-length), c .before .before .before .before .before .before .before .before .before .before .before .before .before .before .before .before .before .before .before .before .before .before .before .before .before .before .before .before .before .pre .out-room)

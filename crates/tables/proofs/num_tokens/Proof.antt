@@ -15,10 +15,10 @@ enum-told : tie.Need-enum-told
 enum-told c = search needs
 
 returns : tie.Need-returns
-returns c = tokens-counted _ _ _ _ _ _ _ (sym (c .before .before .before .tables-in-form .ensures) ∙ c .before .n .given .1)
+returns c = tokens-counted _ _ (sym (c .before .before .before .tables-in-form .ensures) ∙ c .before .n .given .1)
 
 returns-2 : tie.Need-returns-2
-returns-2 c = tokens-out _ _ _ _ _ _ (sym (c .before .before .tables-in-form .ensures) ∙ c .enum-told .given .1)
+returns-2 c = tokens-out _ (sym (c .before .before .tables-in-form .ensures) ∙ c .enum-told .given .1)
 
 pub num-tokens-spec : {M : Type 1} → statement M
 num-tokens-spec =

@@ -26,22 +26,22 @@ enum-told : tie.Need-enum-told
 enum-told c = search needs
 
 returns : tie.Need-returns
-returns c = check-fails _ _ _ _ _ _ _ (sym (c .before .before .check-file .ensures) ∙ c .enum-told .given .1)
+returns c = check-fails _ _ (sym (c .before .before .check-file .ensures) ∙ c .enum-told .given .1)
 
 returns-2 : tie.Need-returns-2
-returns-2 c = facts-fail _ _ _ _ _ _ _ (passed (c .before)) (λ f. omega (arith, f .places-room, c .if1 .taken))
+returns-2 c = facts-fail _ _ (passed (c .before)) (λ f. omega (arith, f .places-room, c .if1 .taken))
 
 returns-3 : tie.Need-returns-3
-returns-3 c = facts-fail _ _ _ _ _ _ _ (passed (c .before .before)) (λ f. omega (arith, f .lefts-room, c .if2 .taken))
+returns-3 c = facts-fail _ _ (passed (c .before .before)) (λ f. omega (arith, f .lefts-room, c .if2 .taken))
 
 returns-4 : tie.Need-returns-4
-returns-4 c = facts-fail _ _ _ _ _ _ _ (passed (c .before .before .before)) (λ f. omega (arith, f .rights-room, c .if3 .taken))
+returns-4 c = facts-fail _ _ (passed (c .before .before .before)) (λ f. omega (arith, f .rights-room, c .if3 .taken))
 
 returns-5 : tie.Need-returns-5
-returns-5 c = facts-fail _ _ _ _ _ _ _ (passed (c .before .before .before .before)) (λ f. omega (arith, f .prefixes-room, c .if4 .taken))
+returns-5 c = facts-fail _ _ (passed (c .before .before .before .before)) (λ f. omega (arith, f .prefixes-room, c .if4 .taken))
 
 returns-6 : tie.Need-returns-6
-returns-6 c = facts-fail _ _ _ _ _ _ _ (passed (c .before .before .before .before .before)) (λ f. omega (arith, f .area-room, c .if5 .taken))
+returns-6 c = facts-fail _ _ (passed (c .before .before .before .before .before)) (λ f. omega (arith, f .area-room, c .if5 .taken))
 
 places-match-requires : tie.Need-places-match-requires
 places-match-requires c κs =
@@ -49,7 +49,7 @@ places-match-requires c κs =
 
 returns-7 : tie.Need-returns-7
 returns-7 c =
-    facts-fail _ _ _ _ _ _ _ (passed (c .before .before .before .before .before .before .before .before)) (λ f. places-lost _ _ _ _ _ (c .before .places-match .ensures) (not-true _ (c .if6 .taken)) (f .places-match))
+    facts-fail _ _ (passed (c .before .before .before .before .before .before .before .before)) (λ f. places-lost _ _ _ _ _ (c .before .places-match .ensures) (not-true _ (c .if6 .taken)) (f .places-match))
 
 rows-fit-requires : tie.Need-rows-fit-requires
 rows-fit-requires c κs =
@@ -62,12 +62,12 @@ rows-fit-requires c κs =
 
 returns-8 : tie.Need-returns-8
 returns-8 c =
-    facts-fail _ _ _ _ _ _ _ (passed (c .before .before .before .before .before .before .before .before .before .before .before))
+    facts-fail _ _ (passed (c .before .before .before .before .before .before .before .before .before .before .before))
     (λ f. rows-lost _ _ _ _ _ (c .before .before .before .before .places-match .ensures) _ _ _ _ (c .before .rows-fit .ensures) (not-false _ (c .before .before .before .if6 .left)) (not-true _ (c .if7 .taken)) (f .rows-fit))
 
 returns-9 : tie.Need-returns-9
 returns-9 c =
-    sym (facts-form _ _ _ _ _ _ _ (record {
+    sym (facts-form _ _ (record {
       passed = passed (c .before .before .before .before .before .before .before .before .before .before .before);
       places-room = c .before .before .before .before .before .before .before .before .before .before .if1 .left;
       lefts-room = c .before .before .before .before .before .before .before .before .before .if2 .left;

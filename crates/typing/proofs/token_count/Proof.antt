@@ -19,7 +19,7 @@ count-columns-requires : tie.Need-count-columns-requires
 count-columns-requires c κs = search needs
 
 returns : tie.Need-returns
-returns c = token-counted _ _ _ _ _ _ _ _ _ _ _ _ _ _ _ (c .before .before .before .before .before .before .before .before .before .length-of-head .ensures) (c .before .before .before .before .before .before .before .before .usable .ensures) (c .before .before .before .before .copy-out .ensures) (c .count-columns .ensures)
+returns c = token-counted _ _ _ _ _ _ _ _ _ _ (c .before .before .before .before .before .before .before .before .before .length-of-head .ensures) (c .before .before .before .before .before .before .before .before .usable .ensures) (c .before .before .before .before .copy-out .ensures) (c .count-columns .ensures)
 
 pub token-count-spec : {M : Type 1} → statement M
 token-count-spec = tie.close (tie.spec length-of-head-requires usable-requires copy-out-requires count-columns-requires returns)

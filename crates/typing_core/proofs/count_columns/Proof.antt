@@ -20,14 +20,14 @@ enum-told-2 : tie.Need-enum-told-2
 enum-told-2 c = search needs
 
 returns : tie.Need-returns
-returns c = count-out _ _ _ _ _ _ _ _ _ _ _ _ _ (rw (c .enum-told2 .given .1) at (c .before .before .before .columns-in-form .ensures))
+returns c = count-out _ _ _ _ _ _ _ _ (rw (c .enum-told2 .given .1) at (c .before .before .before .columns-in-form .ensures))
 
 returns-2 : tie.Need-returns-2
-returns-2 c = count-none _ _ _ _ _ _ _ _ _ _ _ _ _ _ (rw (c .before .enum-told .given .1) at (c .before .before .before .before .columns-in-form .ensures)) (c .if1 .taken)
+returns-2 c = count-none _ _ _ _ _ _ _ _ _ (rw (c .before .enum-told .given .1) at (c .before .before .before .before .columns-in-form .ensures)) (c .if1 .taken)
 
 -- the length is in form
 place : (c : tie.Else1) → c .before .before .before .before .before .before .before .before .before .before .before .before .before .before .before .args .len ≤ 4096
-place c = checked-place _ _ _ _ _ _ _ _ _ _ _ _ _ _ (rw (c .before .enum-told .given .1) at (c .before .before .before .before .columns-in-form .ensures))
+place c = checked-place _ _ _ _ _ _ _ _ _ (rw (c .before .enum-told .given .1) at (c .before .before .before .before .columns-in-form .ensures))
 
 sub-wide : tie.Need-sub-wide
 sub-wide c = search needs
@@ -42,7 +42,7 @@ wide-requires : tie.Need-wide-requires
 wide-requires c κs = search needs
 
 returns-3 : tie.Need-returns-3
-returns-3 c = count-last _ _ _ _ _ _ _ _ _ _ _ _ _ _ (rw (c .before .before .before .enum-told .given .1) at (c .before .before .before .before .before .before .columns-in-form .ensures)) _ (c .before .before .if1 .left) (c .wide .ensures .is)
+returns-3 c = count-last _ _ _ _ _ _ _ _ _ (rw (c .before .before .before .enum-told .given .1) at (c .before .before .before .before .before .before .columns-in-form .ensures)) _ (c .before .before .if1 .left) (c .wide .ensures .is)
 
 pub count-columns-spec : {M : Type 1} → statement M
 count-columns-spec =

@@ -6,7 +6,7 @@ use Rattle.typing_core.proofs.extend_columns.Statement.{statement}
 use Rattle.typing_core.proofs.extend_columns.Tie as tie
 
 returns : tie.Need-returns
-returns c = extend-long _ _ _ _ _ _ _ _ _ _ _ _ _ _ _ _ (c .if1 .taken)
+returns c = extend-long _ _ _ _ _ _ _ _ _ _ _ (c .if1 .taken)
 
 slice-aggregate-columns-in-form : tie.Need-slice-aggregate-columns-in-form
 slice-aggregate-columns-in-form c = search needs
@@ -21,22 +21,22 @@ enum-told : tie.Need-enum-told
 enum-told c = search needs
 
 returns-2 : tie.Need-returns-2
-returns-2 c = extend-out _ _ _ _ _ _ _ _ _ _ _ _ _ _ _ _ (c .before .before .before .before .before .before .before .before .before .before .before .if1 .left) _ (rw (c .enum-told .given .1) at (c .before .before .before .columns-in-form .ensures))
+returns-2 c = extend-out _ _ _ _ _ _ _ _ _ _ _ (c .before .before .before .before .before .before .before .before .before .before .before .if1 .left) _ (rw (c .enum-told .given .1) at (c .before .before .before .columns-in-form .ensures))
 
 add-longer : tie.Need-add-longer
-add-longer c = omega (arith, c .before .before .before .before .before .before .before .before .before .before .before .before .if1 .left, checked-place _ _ _ _ _ _ _ _ _ _ _ _ _ _ (rw (c .before .n .given .1) at (c .before .before .before .before .columns-in-form .ensures)))
+add-longer c = omega (arith, c .before .before .before .before .before .before .before .before .before .before .before .before .if1 .left, checked-place _ _ _ _ _ _ _ _ _ (rw (c .before .n .given .1) at (c .before .before .before .before .columns-in-form .ensures)))
 
 returns-3 : tie.Need-returns-3
-returns-3 c = extend-slice _ _ _ _ _ _ _ _ _ _ _ _ _ _ _ _ (c .before .before .before .before .before .before .before .before .before .before .before .before .before .if1 .left) _ _ (rw (c .before .before .n .given .1) at (c .before .before .before .before .before .columns-in-form .ensures)) (c .if2 .taken)
+returns-3 c = extend-slice _ _ _ _ _ _ _ _ _ _ _ (c .before .before .before .before .before .before .before .before .before .before .before .before .before .if1 .left) _ _ (rw (c .before .before .n .given .1) at (c .before .before .before .before .before .columns-in-form .ensures)) (c .if2 .taken)
 
 returns-4 : tie.Need-returns-4
-returns-4 c = extend-most _ _ _ _ _ _ _ _ _ _ _ _ _ _ _ _ (c .before .before .before .before .before .before .before .before .before .before .before .before .before .before .if1 .left) _ _ (rw (c .before .before .before .n .given .1) at (c .before .before .before .before .before .before .columns-in-form .ensures)) (c .before .if2 .left) (c .if3 .taken)
+returns-4 c = extend-most _ _ _ _ _ _ _ _ _ _ _ (c .before .before .before .before .before .before .before .before .before .before .before .before .before .before .if1 .left) _ _ (rw (c .before .before .before .n .given .1) at (c .before .before .before .before .before .before .columns-in-form .ensures)) (c .before .if2 .left) (c .if3 .taken)
 
 extend-core-requires : tie.Need-extend-core-requires
-extend-core-requires c κs = extend-ready _ _ _ _ _ _ _ _ _ _ _ _ _ _ _ (rw (c .before .before .before .before .before .before .n .given .1) at (c .before .before .before .before .before .before .before .before .before .columns-in-form .ensures)) (c .before .before .before .if3 .left) (c .before .extend-core-arg2 .given .0 .1) (c .extend-core-arg3 .given .0 .1)
+extend-core-requires c κs = extend-ready _ _ _ _ _ _ _ _ _ _ (rw (c .before .before .before .before .before .before .n .given .1) at (c .before .before .before .before .before .before .before .before .before .columns-in-form .ensures)) (c .before .before .before .if3 .left) (c .before .extend-core-arg2 .given .0 .1) (c .extend-core-arg3 .given .0 .1)
 
 returns-5 : tie.Need-returns-5
-returns-5 c = extend-done _ _ _ _ _ _ _ _ _ _ _ _ _ _ _ _ (c .before .before .before .before .before .before .before .before .before .before .before .before .before .before .before .before .before .before .if1 .left) _ _ (rw (c .before .before .before .before .before .before .before .n .given .1) at (c .before .before .before .before .before .before .before .before .before .before .columns-in-form .ensures)) (c .before .before .before .before .before .if2 .left) (c .before .before .before .before .if3 .left) (c .extend-core .ensures)
+returns-5 c = extend-done _ _ _ _ _ _ _ _ _ _ _ (c .before .before .before .before .before .before .before .before .before .before .before .before .before .before .before .before .before .before .if1 .left) _ _ (rw (c .before .before .before .before .before .before .before .n .given .1) at (c .before .before .before .before .before .before .before .before .before .before .columns-in-form .ensures)) (c .before .before .before .before .before .if2 .left) (c .before .before .before .before .if3 .left) (c .extend-core .ensures)
 
 pub extend-columns-spec : {M : Type 1} → statement M
 extend-columns-spec =

@@ -10,10 +10,11 @@ use Rattle.measured.proofs.Turns.{each-none, each-more, each-all}
 use Rattle.measured.proofs.Counting.{piece-ready, piece-number-at}
 use Rattle.measured.proofs.pieces.measured_pieces.Statement.{statement}
 use Rattle.measured.proofs.pieces.measured_pieces.Tie as tie
+use Rattle.tables.specs.Tables.{tables}
 
 abbrev Inv-loop : tie.InvT-loop
 Inv-loop file places lefts rights prefixes area n text last-codes numbers ends depths froms tos work₀ out₀ i₀ work out i =
-    (i ≤ length froms) × (length work ≡ length work₀) × Each (λ (k r : ℕ). PieceNumber file places lefts rights prefixes area n text last-codes numbers ends depths (getD froms k 0) (getD tos k 0) r) i out₀ out
+    (i ≤ length froms) × (length work ≡ length work₀) × Each (λ (k r : ℕ). PieceNumber (tables file places lefts rights prefixes area) n text last-codes numbers ends depths (getD froms k 0) (getD tos k 0) r) i out₀ out
 
 abbrev μ-loop : tie.MeasureT-loop
 μ-loop file places lefts rights prefixes area n text last-codes numbers ends depths froms tos work₀ out₀ i₀ work out i = length froms - i

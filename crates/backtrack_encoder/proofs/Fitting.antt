@@ -9,7 +9,7 @@ use Rattle.theory.specs.Backtracking.{State, place, follows}
 use Rattle.theory.proofs.Lists.{true-false}
 use Rattle.placed_rows.specs.Rows.{row}
 use Rattle.placed_rows.specs.Texts.{Small}
-use Rattle.tables.specs.Tables.{tables}
+use Rattle.tables.specs.Tables.{PairTables, withPrefixes}
 use Rattle.tables.specs.Ready.{PartsReady}
 use Rattle.bitfield.specs.Bits.{isSet}
 use Rattle.token_pair.specs.Pair.{PairReady, PassIs}
@@ -30,10 +30,10 @@ and-false true b e = sym e
 and-false false b e = refl
 
 -- the last code and row c may be checked
-pub pair-ready : (file places lefts rights area : List ℕ) (n : ℕ) (text : List ℕ) (e : BacktrackEncoder) (work : List ℕ) (c : ℕ)
-    → RowsReady file places area n text work → PartsReady file lefts rights n → EncoderReady file n text e work → c < n → (e .count ≡ 0 → ⊥)
-    → PairReady file places lefts rights area n n (getD work (e .count - 1) 0) c
-pair-ready file places lefts rights area n text e work c T S R h some = record {
+pub pair-ready : (P : PairTables) (n : ℕ) (text : List ℕ) (e : BacktrackEncoder) (work : List ℕ) (c : ℕ)
+    → RowsReady (P .file) (P .places) (P .area) n text work → PartsReady (P .file) (P .lefts) (P .rights) n → EncoderReady (P .file) n text e work → c < n → (e .count ≡ 0 → ⊥)
+    → PairReady P n n (getD work (e .count - 1) 0) c
+pair-ready P n text e work c T S R h some = record {
   places-ready = T .places-ready;
   parts-ready = S;
   area-room = T .area-room;
@@ -43,9 +43,11 @@ pair-ready file places lefts rights area n text e work c T S R h some = record {
 }
 
 -- row c, as an index w, has l bytes as they are read
-module _ (file places lefts rights area : List ℕ) (n : ℕ) (text : List ℕ) (e : BacktrackEncoder) (work dead : List ℕ) (c w l : ℕ)
-    (T : RowsReady file places area n text work) (R : EncoderReady file n text e work) (h : c < n)
-    (W : Small c 4294967296 w) (S : Small (length (row file places n w)) 256 l) where
+module _ (P : PairTables) (n : ℕ) (text : List ℕ) (e : BacktrackEncoder) (work dead : List ℕ) (c w l : ℕ)
+    (T : RowsReady (P .file) (P .places) (P .area) n text work) (R : EncoderReady (P .file) n text e work) (h : c < n)
+    (W : Small c 4294967296 w) (S : Small (length (row (P .file) (P .places) n w)) 256 l) where
+  open PairTables P using (file, places)
+
   length-read : l ≡ length (dictionaryOf file .bytes c)
   length-read = read-length file places n (T .places-ready) c w l h W S
 
@@ -61,14 +63,14 @@ module _ (file places lefts rights area : List ℕ) (n : ℕ) (text : List ℕ) 
   ends : e .pos + l ≤ length text → EndsIn file text e c
   ends i = omega (arith, length-read)
 
-  pub fits-outside : length text < e .pos + l → FitsIs file places lefts rights area n text e work dead c false
+  pub fits-outside : length text < e .pos + l → FitsIs P n text e work dead c false
   fits-outside o = record { ends = λ f. absurd (true-false (sym f)); built = λ prefixes B s v i. absurd (omega (arith, length-read)) }
 
-  pub fits-dead : e .pos + l ≤ length text → isSet dead (e .pos + l) ≡ false → FitsIs file places lefts rights area n text e work dead c false
+  pub fits-dead : e .pos + l ≤ length text → isSet dead (e .pos + l) ≡ false → FitsIs P n text e work dead c false
   fits-dead i d = record { ends = λ _. ends i; built = λ prefixes B s v _. and-false (follows (dictionaryOf file) (s .stack) c) _ (sym (end-bit s v i) ∙ d) }
 
   -- it is the first code
-  pub fits-alone : e .pos + l ≤ length text → isSet dead (e .pos + l) ≡ true → e .count ≡ 0 → FitsIs file places lefts rights area n text e work dead c true
+  pub fits-alone : e .pos + l ≤ length text → isSet dead (e .pos + l) ≡ true → e .count ≡ 0 → FitsIs P n text e work dead c true
   fits-alone i d z = record {
     ends = λ _. ends i;
     built = λ prefixes B s v _.
@@ -78,13 +80,13 @@ module _ (file places lefts rights area : List ℕ) (n : ℕ) (text : List ℕ) 
   }
 
   -- there is a code before it
-  pub fits-pair : (r : Bool) → e .pos + l ≤ length text → isSet dead (e .pos + l) ≡ true → (e .count ≡ 0 → ⊥) → PassIs file places lefts rights area n n (getD work (e .count - 1) 0) c r
-      → FitsIs file places lefts rights area n text e work dead c r
+  pub fits-pair : (r : Bool) → e .pos + l ≤ length text → isSet dead (e .pos + l) ≡ true → (e .count ≡ 0 → ⊥) → PassIs P n n (getD work (e .count - 1) 0) c r
+      → FitsIs P n text e work dead c r
   fits-pair r i d some p = record {
     ends = λ _. ends i;
     built = λ prefixes B s v _.
         let f : r ≡ follows (dictionaryOf file) (s .stack) c =
-        pass-is (tables file places lefts rights prefixes area) n B (getD work (e .count - 1) 0) c r p
+        pass-is (withPrefixes P prefixes) n B (getD work (e .count - 1) 0) c r p
         ∙ sym (ap (λ (K : List ℕ). follows (dictionaryOf file) K c) (v .stack ∙ stack-last work (e .count) some)) in
         f ∙ and-true (follows (dictionaryOf file) (s .stack) c) _ (sym (end-bit s v i) ∙ d);
   }

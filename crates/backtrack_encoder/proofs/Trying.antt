@@ -18,7 +18,7 @@ use Rattle.backtrack_encoder.specs.Encoder.{TextReady, toTry, EncoderRea
 use Rattle.backtrack_encoder.specs.Steps.{EndsIn, FitsIs, FirstFitIs}
 use Rattle.backtrack_encoder.proofs.Stack.{try-none, try-row, row-none, row-some}
 use Rattle.backtrack_encoder.proofs.Sizes.{not-none}
-use Rattle.tables.specs.Tables.{Tables}
+use Rattle.tables.specs.Tables.{Tables, withoutPrefixes}
 
 -- what is known of the row at a turn: a row or none, and under Built the first that fits is still to come
 pub record Trying (T : Tables) (n : ℕ) (text : List ℕ) (e : BacktrackEncoder) (work dead : List ℕ) (token : ℕ) : Type 0 where
@@ -29,7 +29,7 @@ pub record Trying (T : Tables) (n : ℕ) (text : List ℕ) (e : BacktrackEncoder
 
 module _ (T : Tables) (n : ℕ) (text : List ℕ) (e : BacktrackEncoder) (work dead : List ℕ)
     (K : TextReady T n text work) where
-  open Tables T using (file, places, lefts, rights, prefixes, area)
+  open Tables T using (file, places, prefixes)
 
   pub try-start : EncoderReady file n text e work → Trying T n text e work dead (e .next)
   try-start R = record {
@@ -56,7 +56,7 @@ module _ (T : Tables) (n : ℕ) (text : List ℕ) (e : BacktrackEncoder) (work d
       list = try-row (dictionaryOf file) token some
 
       -- the row fits
-      pub try-fits : (r : Bool) → r ≡ true → FitsIs file places lefts rights area n text e work dead token r → FirstFitIs T n text e work dead token
+      pub try-fits : (r : Bool) → r ≡ true → FitsIs (withoutPrefixes T) n text e work dead token r → FirstFitIs T n text e work dead token
       try-fits r y F = record {
         row = inr (try-below, F .ends y);
         built = λ B s v i. row-some token some
@@ -91,7 +91,7 @@ module _ (T : Tables) (n : ℕ) (text : List ℕ) (e : BacktrackEncoder) (work d
             (prefix-cases T n B token try-below)
 
       -- it does not fit
-      pub try-next : (r : Bool) → r ≡ false → FitsIs file places lefts rights area n text e work dead token r → Trying T n text e work dead (getD prefixes token 0)
+      pub try-next : (r : Bool) → r ≡ false → FitsIs (withoutPrefixes T) n text e work dead token r → Trying T n text e work dead (getD prefixes token 0)
       try-next r y F = record {
         row = ⊎-elim inl (λ p. inr (p .0)) (K .tables .prefixes-ready .shorter token try-below);
         ends = λ B i. shorter-ends i B;

@@ -14,7 +14,7 @@ use Rattle.bitfield.specs.Bits.{isSet, allSet}
 use Rattle.built.specs.Built.{Built, dictionaryOf}
 use Rattle.backtrack_encoder.specs.declared.BacktrackEncoder.{BacktrackEncoder}
 use Rattle.backtrack_encoder.specs.Encoder.{EncoderReady, Shows}
-use Rattle.tables.specs.Tables.{Tables, tables}
+use Rattle.tables.specs.Tables.{Tables, tables, PairTables, withPrefixes}
 
 -- a row, or nothing where it is none
 unfoldable pub rowOr : ℕ → Option ℕ
@@ -31,10 +31,10 @@ pub record TakenBack (file : List ℕ) (n : ℕ) (text : List ℕ) (e : Backtrac
       → Shows (dictionaryOf file) text r work dead' (takeBack (dictionaryOf file) (s .stack) (s .dead))
 
 -- whether a row passes with the code before and its end is in the text and not dead
-pub record FitsIs (file places lefts rights area : List ℕ) (n : ℕ) (text : List ℕ) (e : BacktrackEncoder) (work dead : List ℕ) (c : ℕ) (r : Bool) : Type 0 where
-  pub ends : r ≡ true → EndsIn file text e c
-  pub built : (prefixes : List ℕ) → Built (tables file places lefts rights prefixes area) n → (s : State) → Shows (dictionaryOf file) text e work dead s → EndsIn file text e c
-      → r ≡ follows (dictionaryOf file) (s .stack) c && not (s .dead (place (dictionaryOf file) (c ∷ s .stack)))
+pub record FitsIs (P : PairTables) (n : ℕ) (text : List ℕ) (e : BacktrackEncoder) (work dead : List ℕ) (c : ℕ) (r : Bool) : Type 0 where
+  pub ends : r ≡ true → EndsIn (P .file) text e c
+  pub built : (prefixes : List ℕ) → Built (withPrefixes P prefixes) n → (s : State) → Shows (dictionaryOf (P .file)) text e work dead s → EndsIn (P .file) text e c
+      → r ≡ follows (dictionaryOf (P .file)) (s .stack) c && not (s .dead (place (dictionaryOf (P .file)) (c ∷ s .stack)))
 
 module _ (file places area : List ℕ) (n : ℕ) (text : List ℕ) where
   -- the encoder of a text at the start, over any work buffer and all bits set

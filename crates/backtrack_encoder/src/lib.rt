@@ -5,7 +5,7 @@ ghost use Prim.Native.Nat.{ℕ, _+_, _^_, _-_, _<_, _≤_, min};
 ghost use lib.ListN.{length, take, drop};
 ghost use Rattle.theory.specs.Dictionary.{Dictionary};
 ghost use Rattle.theory.specs.Backtracking.{final};
-ghost use Rattle.tables.specs.Tables.{given, lent, before, after};
+ghost use Rattle.tables.specs.Tables.{given, lent, pairLent, before, after};
 ghost use Rattle.tables.specs.Ready.{PlacesReady, PartsReady};
 ghost use Rattle.backtrack_encoder.specs.Encoder.{TextReady, RowsReady, EncoderReady};
 ghost use Rattle.backtrack_encoder.specs.Steps.{EndsIn, FitsIs, FirstFitIs, Started, Added, TakenBack, Stepped};
@@ -50,8 +50,8 @@ fn fits(
     requires { ⌜ RowsReady (now file) (now places) (now area) n (now text) (now work) × PartsReady (now file)
         (now lefts) (now rights) n ⌝ }
     requires { ⌜ EncoderReady (now file) n (now text) encoder (now work) × (token < n) ⌝ }
-    ensures { λ r. ⌜ FitsIs (now (file .entry)) (now (places .entry)) (now (lefts .entry)) (now (rights .entry))
-        (now (area .entry)) n (now (text .entry)) encoder (now (work .entry)) (now (dead .entry)) token r ⌝ }
+    ensures { λ r. ⌜ FitsIs (pairLent file places lefts rights area) n (before text) encoder (before work)
+        (before dead) token r ⌝ }
 {
     let end = encoder.pos + length_of(file, places, n, wide(token));
     if text.len() < end {

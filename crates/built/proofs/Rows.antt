@@ -17,7 +17,7 @@ use Rattle.theory.specs.PairCheck.{passes}
 use Rattle.theory.specs.Parts.{dictionary}
 use Rattle.theory.proofs.PairCheck.{Lawful}
 use Rattle.theory.proofs.Accepted.{lawful, known-text}
-use Rattle.tables.specs.Tables.{Tables}
+use Rattle.tables.specs.Tables.{Tables, withoutPrefixes}
 use Rattle.tables.specs.Ready.{PlacesReady}
 use Rattle.token_pair.specs.Pair.{Distinct, Tells, PairIs, PassIs}
 use Rattle.built.specs.Built.{dictionaryOf, Built}
@@ -33,7 +33,7 @@ default (x ∷ l) zero d e h = refl
 default (x ∷ l) (suc i) d e h = default l i d e (omega arith)
 
 module _ (T : Tables) (n : ℕ) (B : Built T n) where
-  open Tables T using (file, places as placeTable, lefts, rights, area)
+  open Tables T using (file, places as placeTable, lefts, rights)
 
   file-is : Checks.Accepted file n
   file-is = Checks.accepted file n (B .passed)
@@ -100,9 +100,9 @@ module _ (T : Tables) (n : ℕ) (B : Built T n) where
   }
 
   -- the pair check over the tables is the dictionary's
-  pub pair-is : (u v : ℕ) (r : Bool) → PairIs file placeTable lefts rights area n n u v r → r ≡ passes (dictionaryOf file) (dictionaryOf file .count) u v
+  pub pair-is : (u v : ℕ) (r : Bool) → PairIs (withoutPrefixes T) n n u v r → r ≡ passes (dictionaryOf file) (dictionaryOf file .count) u v
   pair-is u v r p = p .passes-is (dictionaryOf file) tells distinct-rows (B .finds) (B .pairs-marked) ∙ ap (λ (q : ℕ). passes (dictionaryOf file) q u v) (sym count-is)
 
   -- and so is the one that looks at the seam first
-  pub pass-is : (u v : ℕ) (r : Bool) → PassIs file placeTable lefts rights area n n u v r → r ≡ passes (dictionaryOf file) (dictionaryOf file .count) u v
+  pub pass-is : (u v : ℕ) (r : Bool) → PassIs (withoutPrefixes T) n n u v r → r ≡ passes (dictionaryOf file) (dictionaryOf file .count) u v
   pass-is u v r p = p .passes-is (dictionaryOf file) tells distinct-rows (B .finds) (B .pairs-marked) (B .seams-marked) ∙ ap (λ (q : ℕ). passes (dictionaryOf file) q u v) (sym count-is)

@@ -11,7 +11,7 @@ use Rattle.phrase_file.proofs.Checks.{accepted}
 use Rattle.theory.specs.Dictionary.{Dictionary}
 use Rattle.theory.specs.Merge.{encode}
 use Rattle.theory.specs.Shortest.{shortest, greedy}
-use Rattle.tables.specs.Tables.{Tables}
+use Rattle.tables.specs.Tables.{Tables, withoutPrefixes}
 use Rattle.tables.specs.declared.Answer.the-variants.{Number, Refused}
 use Rattle.tables.specs.InForm.{formOf}
 use Rattle.answers.specs.Refusals.{sendRefusal}
@@ -74,7 +74,7 @@ module _ (T : Tables) (text out work : List ℕ) (n : ℕ)
   codes-below : (out' : List ℕ) (count : ℕ) → ((i : ℕ) → i < count → getD out' i 0 < n) → (i : ℕ) → i < count → getD out' i 0 < length (rows file)
   codes-below out' count h i l = omega (arith, h i l, p .count)
 
-  pub bitfield-ready : Merge.EncodeReady file placeTable lefts rights area n text out work
+  pub bitfield-ready : Merge.EncodeReady (withoutPrefixes T) n text out work
   bitfield-ready = record {
     rows-ready = record { places-ready = p .tables .places-ready; area-room = p .tables .area-room };
     parts-ready = p .tables .parts-ready;
@@ -83,7 +83,7 @@ module _ (T : Tables) (text out work : List ℕ) (n : ℕ)
     work-room = p .work-room;
   }
 
-  pub bitfield-sent : (out' work' : List ℕ) (count : ℕ) → Merge.Encoded file placeTable lefts rights area n text out out' work work' count
+  pub bitfield-sent : (out' work' : List ℕ) (count : ℕ) → Merge.Encoded (withoutPrefixes T) n text out out' work work' count
       → Sends encode T text out work out' work' (Number count)
   bitfield-sent out' work' count s =
       sent encode T text out work n count out' work' p
@@ -114,14 +114,14 @@ module _ (T : Tables) (text out work : List ℕ) (n : ℕ)
       })
       (λ B. (s .count-is B, rw (s .count-is B) (s .codes-are B)))
 
-  pub table-ready : TableReady file placeTable lefts rights area n text out work
+  pub table-ready : TableReady (withoutPrefixes T) n text out work
   table-ready = record {
     in-form = record { places-ready = p .tables .places-ready; parts-ready = p .tables .parts-ready; area-room = p .tables .area-room };
     out-room = p .out-room;
     work-room = p .work-room;
   }
 
-  pub table-sent : (out' work' : List ℕ) (count : ℕ) → TableCodes file placeTable lefts rights area n text out work out' work' count
+  pub table-sent : (out' work' : List ℕ) (count : ℕ) → TableCodes (withoutPrefixes T) n text out work out' work' count
       → Sends encode T text out work out' work' (Number count)
   table-sent out' work' count s =
       sent encode T text out work n count out' work' p

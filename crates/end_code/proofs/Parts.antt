@@ -16,13 +16,15 @@ use Rattle.built.specs.Built.{dictionaryOf, Built}
 use Rattle.built.proofs.Rows.{tells}
 use Rattle.end_code.specs.Tables.{PartsInForm}
 use Rattle.end_code.specs.Joins.{sideOf, boundOf, innerOf, otherOf, PartReady}
-use Rattle.tables.specs.Tables.{tables}
+use Rattle.tables.specs.Tables.{PairTables, withPrefixes}
 
 pub bound-is : (at-end : Bool) (x : ℕ) → boundOf at-end x ≡ boundAt (sideOf at-end) x
 bound-is true x = refl
 bound-is false x = add-one x
 
-module _ (file places lefts rights area : List ℕ) (n : ℕ) (R : PartsInForm file places lefts rights area n) (x : ℕ) (h : x < n) where
+module _ (P : PairTables) (n : ℕ) (R : PartsInForm P n) (x : ℕ) (h : x < n) where
+  open PairTables P using (file, lefts, rights)
+
   sized : (length (getD (rows file) x []) ≡ 1) ⊎ (1 < length (getD (rows file) x []))
   sized = go (ℕ-discrete (length (getD (rows file) x [])) 1)
     where
@@ -43,7 +45,7 @@ module _ (file places lefts rights area : List ℕ) (n : ℕ) (R : PartsInForm f
   inner-lower true d = ⊎-elim (λ o. absurd (d (R .parts-ready .single x h o .1))) (λ l. R .parts-ready .lower x h l .right) sized
   inner-lower false d = ⊎-elim (λ o. absurd (d (R .parts-ready .single x h o .0))) (λ l. R .parts-ready .lower x h l .left) sized
 
-  module _ (prefixes : List ℕ) (B : Built (tables file places lefts rights prefixes area) n) where
+  module _ (prefixes : List ℕ) (B : Built (withPrefixes P prefixes) n) where
     abbrev D : Dictionary
     D = dictionaryOf file
 
@@ -56,14 +58,14 @@ module _ (file places lefts rights area : List ℕ) (n : ℕ) (R : PartsInForm f
     other-is false = B .rights-are x h
 
     pub inner-long : (at-end : Bool) → (innerOf lefts rights at-end x ≡ x → ⊥) → D .long x ≡ true
-    inner-long at-end d = ⊎-elim (λ o. absurd (d (single at-end o))) (λ l. Pairs.long file lefts rights n D (tells (tables file places lefts rights prefixes area) n B) x h l) sized
+    inner-long at-end d = ⊎-elim (λ o. absurd (d (single at-end o))) (λ l. Pairs.long file lefts rights n D (tells (withPrefixes P prefixes) n B) x h l) sized
       where
         single : (at-end : Bool) → length (getD (rows file) x []) ≡ 1 → innerOf lefts rights at-end x ≡ x
         single true o = R .parts-ready .single x h o .1
         single false o = R .parts-ready .single x h o .0
 
     pub inner-single : (at-end : Bool) → innerOf lefts rights at-end x ≡ x → D .long x ≡ false
-    inner-single at-end e = ⊎-elim (λ o. Pairs.short file lefts rights n D (tells (tables file places lefts rights prefixes area) n B) x h o) (λ l. absurd (lower at-end l e)) sized
+    inner-single at-end e = ⊎-elim (λ o. Pairs.short file lefts rights n D (tells (withPrefixes P prefixes) n B) x h o) (λ l. absurd (lower at-end l e)) sized
       where
         lower : (at-end : Bool) → 1 < length (getD (rows file) x []) → innerOf lefts rights at-end x ≡ x → ⊥
         lower true l e = let z = R .parts-ready .lower x h l .right in omega arith

@@ -21,7 +21,7 @@ use Rattle.end_code.specs.Joins.{sideOf, otherOf, PartReady, FirstReady,
 use Rattle.end_code.specs.Codes.{ByteReady, ByteIs, CodesTo, CodeReady, CodeIs}
 use Rattle.end_code.proofs.Sizes.{read-size, row-some}
 use Rattle.end_code.proofs.Parts.{part-ready, other-row, other-is}
-use Rattle.tables.specs.Tables.{tables}
+use Rattle.tables.specs.Tables.{PairTables, withPrefixes}
 
 -- typed bytes in order, and one byte or a row typed beside them
 order-beside : (side : Side) (x y : List ℕ) → inOrder side (beside side x y) ≡ inOrder side x ++ inOrder side y
@@ -45,47 +45,49 @@ left-of side s rest row e =
     )
 
 -- code has been reached, beside the first `at` typed bytes
-pub record Reaching (file places lefts rights area : List ℕ) (at-end : Bool) (n : ℕ) (bytes : List ℕ) (i : ℕ) (codes : List ℕ) (code at : ℕ) : Type 0 where
-  pub ready : CodeReady file places lefts rights area n bytes i codes
+pub record Reaching (P : PairTables) (at-end : Bool) (n : ℕ) (bytes : List ℕ) (i : ℕ) (codes : List ℕ) (code at : ℕ) : Type 0 where
+  pub ready : CodeReady P n bytes i codes
   pub row : code < n
   pub within : at ≤ i
-  pub built : (prefixes : List ℕ) (B : Built (tables file places lefts rights prefixes area) n) → CodesTo file at-end bytes codes i
-      → Reached (dictionaryOf file) (lawful-is (tables file places lefts rights prefixes area) n B) (sideOf at-end) (inOrder (sideOf at-end) (take (suc i) bytes)) code (inOrder (sideOf at-end) (take at bytes))
+  pub built : (prefixes : List ℕ) (B : Built (withPrefixes P prefixes) n) → CodesTo (P .file) at-end bytes codes i
+      → Reached (dictionaryOf (P .file)) (lawful-is (withPrefixes P prefixes) n B) (sideOf at-end) (inOrder (sideOf at-end) (take (suc i) bytes)) code (inOrder (sideOf at-end) (take at bytes))
 
-module _ (file places lefts rights area : List ℕ) (at-end : Bool) (n : ℕ) (bytes : List ℕ) (i : ℕ) (codes : List ℕ) where
+module _ (P : PairTables) (at-end : Bool) (n : ℕ) (bytes : List ℕ) (i : ℕ) (codes : List ℕ) where
+  open PairTables P using (file, places, lefts, rights, area)
+
   abbrev D : Dictionary
   D = dictionaryOf file
 
   abbrev side : Side
   side = sideOf at-end
 
-  pub byte-ready : CodeReady file places lefts rights area n bytes i codes → ByteReady file places area n bytes i
+  pub byte-ready : CodeReady P n bytes i codes → ByteReady file places area n bytes i
   byte-ready R = record { places-ready = R .in-form .places-ready; area-room = R .in-form .area-room; inside = R .inside }
 
-  pub reach-start : CodeReady file places lefts rights area n bytes i codes → getD bytes i 0 < 256 → (r : ℕ) → ByteIs file places area n bytes i r
-      → Reaching file places lefts rights area at-end n bytes i codes r i
+  pub reach-start : CodeReady P n bytes i codes → getD bytes i 0 < 256 → (r : ℕ) → ByteIs file places area n bytes i r
+      → Reaching P at-end n bytes i codes r i
   reach-start R o r F = record {
     ready = R;
     row = F .row;
     within = omega arith;
     built = λ prefixes B agree.
-        let k = known (tables file places lefts rights prefixes area) n B (getD bytes i 0 ∷ []) (o, tt) .0 in
+        let k = known (withPrefixes P prefixes) n B (getD bytes i 0 ∷ []) (o, tt) .0 in
         rw (F .built lefts rights prefixes B, take-suc bytes i 0 (R .inside), order-more side (take i bytes) (getD bytes i 0))
-        (reached-byte D (lawful-is (tables file places lefts rights prefixes area) n B) side (inOrder side (take i bytes)) (getD bytes i 0) k);
+        (reached-byte D (lawful-is (withPrefixes P prefixes) n B) side (inOrder side (take i bytes)) (getD bytes i 0) k);
   }
 
-  module _ (code at : ℕ) (S : Reaching file places lefts rights area at-end n bytes i codes code at) where
+  module _ (code at : ℕ) (S : Reaching P at-end n bytes i codes code at) where
     is-code : (r : ℕ) → endCode side (encode D (inOrder side (take (suc i) bytes))) ≡ r → r ≡ codeAt D side bytes i
     unfolding codeAt
     is-code r e = sym e
 
     -- nothing is left before it
-    pub reach-all : at ≤ 0 → CodeIs file places lefts rights area at-end n bytes i codes code
+    pub reach-all : at ≤ 0 → CodeIs P at-end n bytes i codes code
     reach-all h = record {
       row = S .row;
       built = λ prefixes B agree.
           let z : at ≡ 0 = omega arith in
-          is-code code (reached-all D (lawful-is (tables file places lefts rights prefixes area) n B) side (inOrder side (take (suc i) bytes)) code
+          is-code code (reached-all D (lawful-is (withPrefixes P prefixes) n B) side (inOrder side (take (suc i) bytes)) code
           (rw inOrder-nil at (rw z at (S .built prefixes B agree))));
     }
 
@@ -96,29 +98,29 @@ module _ (file places lefts rights area : List ℕ) (at-end : Bool) (n : ℕ) (b
       pub before-inside : at - 1 < length codes
       before-inside = omega (arith, S .within, S .ready .before .room)
 
-      pub join-ready : FirstReady file places lefts rights area n (getD codes (at - 1) 0) code
+      pub join-ready : FirstReady P n (getD codes (at - 1) 0) code
       join-ready = record { in-form = S .ready .in-form; row = before-row; typed = S .row }
 
       size : length (take at bytes) ≡ at
       size = let h = S .within in let g = S .ready .inside in length-take-le at bytes (omega arith)
 
       -- the end code of the bytes before it
-      before-end : (prefixes : List ℕ) (B : Built (tables file places lefts rights prefixes area) n) → CodesTo file at-end bytes codes i
-          → EndOf D (lawful-is (tables file places lefts rights prefixes area) n B) side (inOrder side (take at bytes)) (getD codes (at - 1) 0)
+      before-end : (prefixes : List ℕ) (B : Built (withPrefixes P prefixes) n) → CodesTo file at-end bytes codes i
+          → EndOf D (lawful-is (withPrefixes P prefixes) n B) side (inOrder side (take at bytes)) (getD codes (at - 1) 0)
       unfolding codeAt
       before-end prefixes B agree =
           let h = S .within in
           let e : suc (at - 1) ≡ at = omega arith in
           let c : getD codes (at - 1) 0 ≡ endCode side (encode D (inOrder side (take at bytes))) = agree (at - 1) (omega arith) ∙ ap (λ (k : ℕ). endCode side (encode D (inOrder side (take k bytes)))) e in
-          rw c (end-of D (lawful-is (tables file places lefts rights prefixes area) n B) side (inOrder side (take at bytes))
+          rw c (end-of D (lawful-is (withPrefixes P prefixes) n B) side (inOrder side (take at bytes))
           (λ z. omega (arith, ap length z, length-inOrder side (take at bytes), size)))
 
-      module _ (r : ℕ) (F : FirstIs file places lefts rights area at-end n (getD codes (at - 1) 0) code r) where
-        pub reach-end : r ≡ none → CodeIs file places lefts rights area at-end n bytes i codes code
+      module _ (r : ℕ) (F : FirstIs P at-end n (getD codes (at - 1) 0) code r) where
+        pub reach-end : r ≡ none → CodeIs P at-end n bytes i codes code
         reach-end z = record {
           row = S .row;
           built = λ prefixes B agree.
-              is-code code (reached-end D (lawful-is (tables file places lefts rights prefixes area) n B) side (inOrder side (take (suc i) bytes)) code (inOrder side (take at bytes)) (S .built prefixes B agree)
+              is-code code (reached-end D (lawful-is (withPrefixes P prefixes) n B) side (inOrder side (take (suc i) bytes)) code (inOrder side (take at bytes)) (S .built prefixes B agree)
               (getD codes (at - 1) 0) (before-end prefixes B agree) r (F .built prefixes B) z);
         }
 
@@ -127,10 +129,10 @@ module _ (file places lefts rights area : List ℕ) (at-end : Bool) (n : ℕ) (b
           joined-row = ⊎-elim (λ z. absurd (ne z)) (λ h. h) (F .bound)
 
           pub joined-part : PartReady lefts rights r
-          joined-part = part-ready file places lefts rights area n (S .ready .in-form) r joined-row
+          joined-part = part-ready P n (S .ready .in-form) r joined-row
 
           pub joined-other : (o : ℕ) → o ≡ otherOf lefts rights at-end r → o < n
-          joined-other o e = rw e (other-row file places lefts rights area n (S .ready .in-form) r joined-row at-end)
+          joined-other o e = rw e (other-row P n (S .ready .in-form) r joined-row at-end)
 
           module _ (o len : ℕ) (eo : o ≡ otherOf lefts rights at-end r) (x : ℕ) (el : len ≡ length (row file places n x)) (ex : x ≡ o) where
             row-ready : RowReady file places n o
@@ -142,12 +144,12 @@ module _ (file places lefts rights area : List ℕ) (at-end : Bool) (n : ℕ) (b
             pub len-some : 0 < len
             len-some = omega (arith, len-is, row-some file places n o row-ready)
 
-            left : (prefixes : List ℕ) (B : Built (tables file places lefts rights prefixes area) n) → CodesTo file at-end bytes codes i
-                → (len ≤ at) × Reached D (lawful-is (tables file places lefts rights prefixes area) n B) side (inOrder side (take (suc i) bytes)) r (inOrder side (take (at - len) bytes))
+            left : (prefixes : List ℕ) (B : Built (withPrefixes P prefixes) n) → CodesTo file at-end bytes codes i
+                → (len ≤ at) × Reached D (lawful-is (withPrefixes P prefixes) n B) side (inOrder side (take (suc i) bytes)) r (inOrder side (take (at - len) bytes))
             left prefixes B agree =
-                let J = reached-join D (lawful-is (tables file places lefts rights prefixes area) n B) side (inOrder side (take (suc i) bytes)) code (inOrder side (take at bytes)) (S .built prefixes B agree)
+                let J = reached-join D (lawful-is (withPrefixes P prefixes) n B) side (inOrder side (take (suc i) bytes)) code (inOrder side (take at bytes)) (S .built prefixes B agree)
                 (getD codes (at - 1) 0) (before-end prefixes B agree) r (F .built prefixes B) ne in
-                let p : D .bytes (otherPart D side r) ≡ D .bytes o = ap (D .bytes) (sym (other-is file places lefts rights area n (S .ready .in-form) r joined-row prefixes B at-end) ∙ sym eo) in
+                let p : D .bytes (otherPart D side r) ≡ D .bytes o = ap (D .bytes) (sym (other-is P n (S .ready .in-form) r joined-row prefixes B at-end) ∙ sym eo) in
                 let q = left-of side (take at bytes) (J .rest) (D .bytes (otherPart D side r)) (J .split) in
                 let z : length (D .bytes (otherPart D side r)) ≡ len = ap length p ∙ sym len-is in
                 let w : length (take at bytes) - length (D .bytes (otherPart D side r)) ≡ at - len = rw (size, z) refl in
@@ -157,10 +159,10 @@ module _ (file places lefts rights area : List ℕ) (at-end : Bool) (n : ℕ) (b
                 )
 
             -- never on the tables of a build
-            pub reach-short : at < len → CodeIs file places lefts rights area at-end n bytes i codes code
+            pub reach-short : at < len → CodeIs P at-end n bytes i codes code
             reach-short h = record { row = S .row; built = λ prefixes B agree. absurd (omega (arith, left prefixes B agree .0)) }
 
-            pub reach-join : len ≤ at → Reaching file places lefts rights area at-end n bytes i codes r (at - len)
+            pub reach-join : len ≤ at → Reaching P at-end n bytes i codes r (at - len)
             reach-join h = record {
               ready = S .ready;
               row = joined-row;

@@ -5,7 +5,7 @@ use mathlib.Core.Bool.{Bool}
 use Prim.Native.Nat.{ℕ, _≤_, _<_}
 use lib.ListN.{length, getD}
 use Rattle.theory.specs.Typing.{codeAt}
-use Rattle.tables.specs.Tables.{tables}
+use Rattle.tables.specs.Tables.{tables, PairTables, withPrefixes}
 use Rattle.tables.specs.Ready.{PlacesReady}
 use Rattle.built.specs.Built.{dictionaryOf, Built}
 use Rattle.end_code.specs.Tables.{PartsInForm, FrontRows}
@@ -27,12 +27,12 @@ abbrev pub CodesTo : List ℕ → Bool → List ℕ → List ℕ → ℕ → Typ
 CodesTo file at-end bytes codes i = (j : ℕ) → j < i → getD codes j 0 ≡ codeAt (dictionaryOf file) (sideOf at-end) bytes j
 
 -- what the end code of the first i + 1 typed bytes needs: those bytes, and a row for each shorter one
-pub record CodeReady (file places lefts rights area : List ℕ) (n : ℕ) (bytes : List ℕ) (i : ℕ) (codes : List ℕ) : Type 0 where
-  pub in-form : PartsInForm file places lefts rights area n
+pub record CodeReady (P : PairTables) (n : ℕ) (bytes : List ℕ) (i : ℕ) (codes : List ℕ) : Type 0 where
+  pub in-form : PartsInForm P n
   pub inside : i < length bytes
   pub before : FrontRows n codes i
 
 -- a row; behind true end codes the end code of the first i + 1 typed bytes
-pub record CodeIs (file places lefts rights area : List ℕ) (at-end : Bool) (n : ℕ) (bytes : List ℕ) (i : ℕ) (codes : List ℕ) (r : ℕ) : Type 0 where
+pub record CodeIs (P : PairTables) (at-end : Bool) (n : ℕ) (bytes : List ℕ) (i : ℕ) (codes : List ℕ) (r : ℕ) : Type 0 where
   pub row : r < n
-  pub built : (prefixes : List ℕ) → Built (tables file places lefts rights prefixes area) n → CodesTo file at-end bytes codes i → r ≡ codeAt (dictionaryOf file) (sideOf at-end) bytes i
+  pub built : (prefixes : List ℕ) → Built (withPrefixes P prefixes) n → CodesTo (P .file) at-end bytes codes i → r ≡ codeAt (dictionaryOf (P .file)) (sideOf at-end) bytes i

@@ -10,7 +10,7 @@ use Rattle.theory.specs.Typing.{Side, append, prepend}
 use Rattle.theory.specs.FirstJoin.{JoinBelow, FirstJoin}
 use Rattle.built.specs.Built.{dictionaryOf, Built}
 use Rattle.end_code.specs.Tables.{PartsInForm}
-use Rattle.tables.specs.Tables.{tables}
+use Rattle.tables.specs.Tables.{PairTables, withPrefixes}
 
 -- whether rows are typed at the end of the text, or at its front
 abbrev pub sideOf : Bool → Side
@@ -35,27 +35,27 @@ pub record PartReady (lefts rights : List ℕ) (x : ℕ) : Type 0 where
   pub right-room : x < length rights
 
 -- what one join below m needs: the rows with their parts, and two rows
-pub record BesideReady (file places lefts rights area : List ℕ) (n m x s : ℕ) : Type 0 where
-  pub placed : Placed file places n
-  pub area-room : 16384 ≤ length area
-  pub left-room : n ≤ length lefts
-  pub right-room : n ≤ length rights
+pub record BesideReady (P : PairTables) (n m x s : ℕ) : Type 0 where
+  pub placed : Placed (P .file) (P .places) n
+  pub area-room : 16384 ≤ length (P .area)
+  pub left-room : n ≤ length (P .lefts)
+  pub right-room : n ≤ length (P .rights)
   pub below : m ≤ n
   pub row : x < n
   pub typed : s < n
 
 -- the row below m that has x and, typed beside it, s as its parts
-pub record BesideIs (file places lefts rights area : List ℕ) (at-end : Bool) (n m x s r : ℕ) : Type 0 where
+pub record BesideIs (P : PairTables) (at-end : Bool) (n m x s r : ℕ) : Type 0 where
   pub bound : (r ≡ none) ⊎ (r < m)
-  pub built : (prefixes : List ℕ) → Built (tables file places lefts rights prefixes area) n → x < n → s < n → JoinBelow (dictionaryOf file) (sideOf at-end) m x s r
+  pub built : (prefixes : List ℕ) → Built (withPrefixes P prefixes) n → x < n → s < n → JoinBelow (dictionaryOf (P .file)) (sideOf at-end) m x s r
 
 -- what the first join needs: tables in form, and two rows
-pub record FirstReady (file places lefts rights area : List ℕ) (n u s : ℕ) : Type 0 where
-  pub in-form : PartsInForm file places lefts rights area n
+pub record FirstReady (P : PairTables) (n u s : ℕ) : Type 0 where
+  pub in-form : PartsInForm P n
   pub row : u < n
   pub typed : s < n
 
 -- the lowest row that joins s and what u has at that end by then
-pub record FirstIs (file places lefts rights area : List ℕ) (at-end : Bool) (n u s r : ℕ) : Type 0 where
+pub record FirstIs (P : PairTables) (at-end : Bool) (n u s r : ℕ) : Type 0 where
   pub bound : (r ≡ none) ⊎ (r < n)
-  pub built : (prefixes : List ℕ) → Built (tables file places lefts rights prefixes area) n → FirstJoin (dictionaryOf file) (sideOf at-end) u s r
+  pub built : (prefixes : List ℕ) → Built (withPrefixes P prefixes) n → FirstJoin (dictionaryOf (P .file)) (sideOf at-end) u s r

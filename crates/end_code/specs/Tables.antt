@@ -2,6 +2,7 @@
 use mathlib.Core.List.{List}
 use Prim.Native.Nat.{ℕ, _≤_, _<_}
 use lib.ListN.{length, getD}
+use Rattle.tables.specs.Tables.{PairTables}
 use Rattle.tables.specs.Ready.{PlacesReady, PartsReady}
 
 -- a row whose bytes may be read
@@ -14,10 +15,10 @@ abbrev pub RowsTo : ℕ → List ℕ → ℕ → Type 0
 RowsTo n table m = (j : ℕ) → j < m → getD table j 0 < n
 
 -- the tables that are read are in form; the prefixes of the rows are not read
-pub record PartsInForm (file places lefts rights area : List ℕ) (n : ℕ) : Type 0 where
-  pub places-ready : PlacesReady file places n
-  pub parts-ready : PartsReady file lefts rights n
-  pub area-room : 16384 ≤ length area
+pub record PartsInForm (P : PairTables) (n : ℕ) : Type 0 where
+  pub places-ready : PlacesReady (P .file) (P .places) n
+  pub parts-ready : PartsReady (P .file) (P .lefts) (P .rights) n
+  pub area-room : 16384 ≤ length (P .area)
 
 -- a table has m entries or more, and the first m are rows
 pub record FrontRows (n : ℕ) (table : List ℕ) (m : ℕ) : Type 0 where

@@ -6,6 +6,7 @@ ghost use lib.ListN.{length};
 ghost use Rattle.theory.proofs.Spine.{orElse};
 ghost use Rattle.end_code.specs.Joins.{boundOf, innerOf, otherOf, PartReady, BesideReady, BesideIs, FirstReady, FirstIs};
 ghost use Rattle.end_code.specs.Codes.{ByteReady, ByteIs, CodeReady, CodeIs};
+ghost use Rattle.tables.specs.Tables.{pairGiven, pairLent, before};
 use placed_rows::NONE;
 use placed_rows::wide;
 
@@ -59,8 +60,8 @@ fn join_beside(
     typed: u32,
     append: bool,
 ) -> u32
-    requires { ⌜ BesideReady (now file) (now places) (now lefts) (now rights) (now area) n bound x typed ⌝ }
-    ensures { λ r. ⌜ BesideIs (now (file .entry)) (now (places .entry)) (now (lefts .entry)) (now (rights .entry)) (now (area .entry)) append n bound x typed r ⌝ }
+    requires { ⌜ BesideReady (pairGiven file places lefts rights area) n bound x typed ⌝ }
+    ensures { λ r. ⌜ BesideIs (pairLent file places lefts rights area) append n bound x typed r ⌝ }
 {
     let limit = n as u32;
     if append {
@@ -92,8 +93,8 @@ fn first_join(
     typed: u32,
     append: bool,
 ) -> u32
-    requires { ⌜ FirstReady (now file) (now places) (now lefts) (now rights) (now area) n code typed ⌝ }
-    ensures { λ r. ⌜ FirstIs (now (file .entry)) (now (places .entry)) (now (lefts .entry)) (now (rights .entry)) (now (area .entry)) append n code typed r ⌝ }
+    requires { ⌜ FirstReady (pairGiven file places lefts rights area) n code typed ⌝ }
+    ensures { λ r. ⌜ FirstIs (pairLent file places lefts rights area) append n code typed r ⌝ }
 {
     let mut x = code;
     let mut bound = n as u32;
@@ -147,8 +148,8 @@ pub fn end_code_at(
     codes: &[u32],
     append: bool,
 ) -> u32
-    requires { ⌜ CodeReady (now file) (now places) (now lefts) (now rights) (now area) n (now bytes) i (now codes) ⌝ }
-    ensures { λ r. ⌜ CodeIs (now (file .entry)) (now (places .entry)) (now (lefts .entry)) (now (rights .entry)) (now (area .entry)) append n (now (bytes .entry)) i (now (codes .entry)) r ⌝ }
+    requires { ⌜ CodeReady (pairGiven file places lefts rights area) n (now bytes) i (now codes) ⌝ }
+    ensures { λ r. ⌜ CodeIs (pairLent file places lefts rights area) append n (before bytes) i (before codes) r ⌝ }
 {
     let mut code = byte_row(file, places, area, n, bytes, i);
     let mut at = i;

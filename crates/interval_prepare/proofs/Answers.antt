@@ -13,7 +13,7 @@ use Rattle.causes.specs.declared.Cause.{Cause}
 use Rattle.causes.specs.declared.Cause.the-variants.{TooShort, OutOfForm, TooLong}
 use Rattle.phrase_file.specs.Form.{rows}
 use Rattle.phrase_file.proofs.Checks.{accepted}
-use Rattle.tables.specs.Tables.{Tables}
+use Rattle.tables.specs.Tables.{Tables, withoutPrefixes}
 use Rattle.tables.specs.declared.Form.{Form}
 use Rattle.tables.specs.declared.Form.the-variants.{Rows, Out}
 use Rattle.tables.specs.declared.Answer.the-variants.{Number, Refused}
@@ -93,7 +93,7 @@ long-enough text lastCodes numbers ends depths work e =
     }
 
 module _ (T : Tables) (text lastCodes numbers ends depths work : List ℕ) where
-  open Tables T using (file, places as placeTable, lefts, rights, prefixes, area)
+  open Tables T using (file, prefixes)
 
   abbrev form : Form
   form = formOf T
@@ -125,7 +125,7 @@ module _ (T : Tables) (text lastCodes numbers ends depths work : List ℕ) where
       refused-out e = refused OutOfForm (rw (le-ltb 4096 (length text) short, room, e))
 
       module _ (n : ℕ) (e : form ≡ Rows n) where
-        pub core-ready : CoreReady file placeTable lefts rights area n text lastCodes numbers ends depths work
+        pub core-ready : CoreReady (withoutPrefixes T) n text lastCodes numbers ends depths work
         core-ready =
             let K = ready T n e in
             let r = long-enough text lastCodes numbers ends depths work room in
@@ -144,7 +144,7 @@ module _ (T : Tables) (text lastCodes numbers ends depths work : List ℕ) where
         none-refused = rw (le-ltb 4096 (length text) short, room, e)
 
         pub prepared : (lastCodes' numbers' ends' depths' work' : List ℕ)
-            → CorePrepares file placeTable lefts rights area n text lastCodes numbers ends depths work lastCodes' numbers' ends' depths' work'
+            → CorePrepares (withoutPrefixes T) n text lastCodes numbers ends depths work lastCodes' numbers' ends' depths' work'
             → Prepares T text lastCodes numbers ends depths work lastCodes' numbers' ends' depths' work' (Number (length text))
         prepared lastCodes' numbers' ends' depths' work' C =
             let rows-are : n ≡ length (rows file) = ready T n e .places-ready .count in

@@ -13,7 +13,7 @@ use Rattle.theory.proofs.PairCheck.{Lawful}
 use Rattle.theory.proofs.Table.{length-lastCodes, getD-lastCodes}
 use Rattle.theory.proofs.Tree.{tree-ind, number-le, end-le}
 use Rattle.theory.proofs.Interval.{treeNumber-is, treeEnd-is, depth-root, depth-child}
-use Rattle.tables.specs.Tables.{tables}
+use Rattle.tables.specs.Tables.{PairTables, withPrefixes}
 use Rattle.tables.proofs.Sweeps.{each-all}
 use Rattle.built.specs.Built.{dictionaryOf, Built}
 use Rattle.built.proofs.Rows.{lawful-is}
@@ -37,16 +37,18 @@ tree-in-form text table room few =
     rw (le-leb (length text + 1) (length table) (omega arith))
     (each-all (λ i. leb (getD table i 0) (length text + 1)) (length text + 1) (λ i h. le-leb (getD table i 0) (length text + 1) (few i (omega arith))))
 
-module _ (file places lefts rights area : List ℕ) (n : ℕ) (text codes numbers ends depths work : List ℕ) (R : CoreReady file places lefts rights area n text codes numbers ends depths work) where
-  pub codes-ready : PrefixesReady file places lefts rights area n text codes
+module _ (P : PairTables) (n : ℕ) (text codes numbers ends depths work : List ℕ) (R : CoreReady P n text codes numbers ends depths work) where
+  open PairTables P using (file, places)
+
+  pub codes-ready : PrefixesReady P n text codes
   codes-ready = record { in-form = R .in-form; room = R .codes-room }
 
-  module _ (codes' : List ℕ) (P : PrefixesAre file places lefts rights area n text codes codes') where
+  module _ (codes' : List ℕ) (Q : PrefixesAre P n text codes codes') where
     codes-room : length text ≤ length codes'
-    codes-room = omega (arith, P .same-length, R .codes-room)
+    codes-room = omega (arith, Q .same-length, R .codes-room)
 
     row-table : RowTable file places n (length text) codes'
-    row-table = record { places-ready = R .in-form .places-ready; rows = record { room = codes-room; rows = P .rows } }
+    row-table = record { places-ready = R .in-form .places-ready; rows = record { room = codes-room; rows = Q .rows } }
 
     pub sizes-ready : SizesReady file places n (length text) codes' work
     sizes-ready = record { rows = row-table; short = R .short; room = R .work-room }
@@ -70,21 +72,21 @@ module _ (file places lefts rights area : List ℕ) (n : ℕ) (text codes number
         all-in-form : intervalInForm n text codes' numbers' ends' depths' ≡ true
         unfolding intervalInForm
         all-in-form = rw (
-          codes-in-form n text codes' codes-room (P .rows),
+          codes-in-form n text codes' codes-room (Q .rows),
           tree-in-form text numbers' (omega (arith, T .numbers-written .same-length, R .numbers-room)) (λ p h. omega (arith, T .numbers-are p h, number-le (parentIn file codes') (length text) low p h)),
           tree-in-form text ends' (omega (arith, T .ends-written .same-length, R .ends-room)) (λ p h. omega (arith, T .ends-are p h, end-le (parentIn file codes') (length text) low p h)),
           tree-in-form text depths' (omega (arith, T .depths-written .same-length, R .depths-room))
               (λ p h. omega (arith, depth-bound (parentIn file codes') (length text) low depths' (T .depth-root) (T .depth-child) p h)),
         )
 
-        module _ (prefixes : List ℕ) (B : Built (tables file places lefts rights prefixes area) n) where
+        module _ (prefixes : List ℕ) (B : Built (withPrefixes P prefixes) n) where
           L : Lawful (dictionaryOf file)
-          L = lawful-is (tables file places lefts rights prefixes area) n B
+          L = lawful-is (withPrefixes P prefixes) n B
 
           true-codes : (i : ℕ) → i < length text → getD codes' i 0 ≡ lastCode (dictionaryOf file) (take (suc i) text)
           true-codes i h =
               let D = dictionaryOf file in
-              ap (λ (l : List ℕ). getD l i 0) (P .built prefixes B)
+              ap (λ (l : List ℕ). getD l i 0) (Q .built prefixes B)
               ∙ List·getD-append (lastCodes D text) (drop (length text) codes) 0 i (omega (arith, length-lastCodes D text))
               ∙ getD-lastCodes D text i 0 h
 
@@ -104,11 +106,11 @@ module _ (file places lefts rights area : List ℕ) (n : ℕ) (text codes number
             depths-are = true-depths;
           }
 
-        pub core-prepares : CorePrepares file places lefts rights area n text codes numbers ends depths work codes' numbers' ends' depths' work'
+        pub core-prepares : CorePrepares P n text codes numbers ends depths work codes' numbers' ends' depths' work'
         core-prepares = record {
           filled = record {
-            codes-length = P .same-length;
-            codes-beyond = P .beyond;
+            codes-length = Q .same-length;
+            codes-beyond = Q .beyond;
             numbers-written = T .numbers-written;
             ends-written = T .ends-written;
             depths-written = T .depths-written;

@@ -9,7 +9,7 @@ use lib.Dec.{ltb}
 use Rattle.causes.specs.declared.Cause.{Cause}
 use Rattle.causes.specs.declared.Cause.the-variants.{TooShort, OutOfForm, TooLong}
 use Rattle.phrase_file.specs.Form.{rows}
-use Rattle.tables.specs.Tables.{Tables, tables}
+use Rattle.tables.specs.Tables.{Tables, PairTables, withPrefixes}
 use Rattle.tables.specs.declared.Form.{Form}
 use Rattle.tables.specs.declared.Answer.{Answer}
 use Rattle.tables.specs.InForm.{formOf}
@@ -56,8 +56,8 @@ module _ (lastCodes numbers ends depths work lastCodes' numbers' ends' depths' w
     pub in-form : intervalInForm n text lastCodes' numbers' ends' depths' ≡ true
 
 -- tables in form, a text of at most 4,096 bytes, and buffers that are long enough
-pub record CoreReady (file places lefts rights area : List ℕ) (n : ℕ) (text lastCodes numbers ends depths work : List ℕ) : Type 0 where
-  pub in-form : PartsInForm file places lefts rights area n
+pub record CoreReady (P : PairTables) (n : ℕ) (text lastCodes numbers ends depths work : List ℕ) : Type 0 where
+  pub in-form : PartsInForm P n
   pub short : length text ≤ 4096
   pub codes-room : length text ≤ length lastCodes
   pub numbers-room : length text < length numbers
@@ -66,9 +66,9 @@ pub record CoreReady (file places lefts rights area : List ℕ) (n : ℕ) (text 
   pub work-room : length text ≤ length work
 
 -- the tables filled; over tables that build left they are the prepared ones of the text
-pub record CorePrepares (file places lefts rights area : List ℕ) (n : ℕ) (text lastCodes numbers ends depths work lastCodes' numbers' ends' depths' work' : List ℕ) : Type 0 where
+pub record CorePrepares (P : PairTables) (n : ℕ) (text lastCodes numbers ends depths work lastCodes' numbers' ends' depths' work' : List ℕ) : Type 0 where
   pub filled : Filled lastCodes numbers ends depths work lastCodes' numbers' ends' depths' work' text n
-  pub built : (prefixes : List ℕ) → Built (tables file places lefts rights prefixes area) n → Prepared file text lastCodes' numbers' ends' depths'
+  pub built : (prefixes : List ℕ) → Built (withPrefixes P prefixes) n → Prepared (P .file) text lastCodes' numbers' ends' depths'
 
 module _ (T : Tables) (text lastCodes numbers ends depths work : List ℕ) where
   open Tables T using (file)

@@ -2,7 +2,7 @@
 ghost use mathlib.Core.Path.{_≡_};
 ghost use Rattle.interval_prepare.specs.Steps.{parentIn, ParentReady, OnesReady, Ones, AddReady, added, SizesReady, SizesAre, ChildReady, ChildPlaced, TreeReady, TreeIs};
 ghost use Rattle.interval_prepare.specs.Answers.{tooShort, CoreReady, CorePrepares, Prepares};
-ghost use Rattle.tables.specs.Tables.{lent, before, after};
+ghost use Rattle.tables.specs.Tables.{lent, pairGiven, pairLent, before, after};
 use causes::Cause;
 use placed_rows::length_of;
 use placed_rows::wide;
@@ -123,12 +123,11 @@ pub fn prepare_core(
     depths: &mut [u32],
     work: &mut [u32],
 )
-    requires { ⌜ CoreReady (now file) (now places) (now lefts) (now rights) (now area) n (now text)
-        (now «last_codes») (now numbers) (now ends) (now depths) (now work) ⌝ }
-    ensures { λ _. ⌜ CorePrepares (now (file .entry)) (now (places .entry)) (now (lefts .entry))
-        (now (rights .entry)) (now (area .entry)) n (now (text .entry)) (now («last_codes» .entry))
-        (now (numbers .entry)) (now (ends .entry)) (now (depths .entry)) (now (work .entry))
-        (now («last_codes» .exit)) (now (numbers .exit)) (now (ends .exit)) (now (depths .exit)) (now (work .exit)) ⌝ }
+    requires { ⌜ CoreReady (pairGiven file places lefts rights area) n (now text) (now «last_codes») (now numbers)
+        (now ends) (now depths) (now work) ⌝ }
+    ensures { λ _. ⌜ CorePrepares (pairLent file places lefts rights area) n (before text) (before «last_codes»)
+        (before numbers) (before ends) (before depths) (before work) (after «last_codes») (after numbers)
+        (after ends) (after depths) (after work) ⌝ }
 {
     let m = text.len();
     encode_all_prefixes(file, places, lefts, rights, area, n, text, last_codes);

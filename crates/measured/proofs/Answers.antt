@@ -6,7 +6,7 @@ use Prim.Native.Nat.{ℕ}
 use Rattle.placed_rows.specs.Rows.{row}
 use Rattle.search_area.specs.Answers.{Found}
 use Rattle.token_pair.specs.Pair.{PairIs}
-use Rattle.tables.specs.Tables.{Tables}
+use Rattle.tables.specs.Tables.{Tables, PairTables}
 use Rattle.tables.specs.declared.Answer.{Answer}
 use Rattle.answers.specs.Answers.{answerOf}
 use Rattle.typing_core.specs.Sides.{sideOf}
@@ -21,9 +21,9 @@ pub found-row : {file places area t : List ℕ} {n r x y : ℕ} → t ≡ row fi
 found-row e f F = rw (e, f) at F
 
 -- the answer as a number
-pub numbered : {file places lefts rights area : List ℕ} {n u v : ℕ} (check b : Bool) → check ≡ b → PairIs file places lefts rights area n n u v check
-    → PairNumber file places lefts rights area n u v (cond b 1 0)
-numbered check b e P = record { check = b; checked = rw e at P; is = refl }
+pub numbered : {P : PairTables} {n u v : ℕ} (check b : Bool) → check ≡ b → PairIs P n n u v check
+    → PairNumber P n u v (cond b 1 0)
+numbered check b e Q = record { check = b; checked = rw e at Q; is = refl }
 
 -- the bytes typed on the side that the caller's number names
 pub typed-on : {T : Tables} {side named : Side} {len size : ℕ} {bytes codes counts typed : List ℕ} {a : Answer}

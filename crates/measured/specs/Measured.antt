@@ -7,6 +7,7 @@ use lib.ListN.{length, getD, drop}
 use Rattle.placed_rows.specs.Rows.{row, Placed}
 use Rattle.search_area.specs.Answers.{Found, Joined}
 use Rattle.token_pair.specs.Pair.{PairReady, PairIs}
+use Rattle.tables.specs.Tables.{PairTables, pairTables}
 
 -- every code of the list is below n
 abbrev pub AllBelow : ℕ → List ℕ → Type 0
@@ -26,22 +27,22 @@ pub record JoinReady (file places : List ℕ) (n : ℕ) (area codes others out :
   pub others-below : AllBelow n others
 
 -- pairs that may be checked, and an output that has one number per pair
-pub record PairsReady (file places lefts rights area : List ℕ) (n : ℕ) (codes others out : List ℕ) : Type 0 where
-  pub pairs : (i : ℕ) → i < length codes → PairReady file places lefts rights area n n (getD codes i 0) (getD others i 0)
+pub record PairsReady (P : PairTables) (n : ℕ) (codes others out : List ℕ) : Type 0 where
+  pub pairs : (i : ℕ) → i < length codes → PairReady P n n (getD codes i 0) (getD others i 0)
   pub same-size : length others ≡ length codes
   pub few : n ≤ 4096
   pub out-room : length codes ≤ length out
 
--- the first m entries of the output have P, and the rest is unchanged
-pub record Each (P : ℕ → ℕ → Type 0) (m : ℕ) (out out' : List ℕ) : Type 0 where
+-- the first m entries of the output have Q, and the rest is unchanged
+pub record Each (Q : ℕ → ℕ → Type 0) (m : ℕ) (out out' : List ℕ) : Type 0 where
   pub kept : length out' ≡ length out
   pub beyond : drop m out' ≡ drop m out
-  pub each : (i : ℕ) → i < m → P i (getD out' i 0)
+  pub each : (i : ℕ) → i < m → Q i (getD out' i 0)
 
 -- r is 1 if the pair passes over the rows below n, else 0
-pub record PairNumber (file places lefts rights area : List ℕ) (n u v r : ℕ) : Type 0 where
+pub record PairNumber (P : PairTables) (n u v r : ℕ) : Type 0 where
   pub check : Bool
-  pub checked : PairIs file places lefts rights area n n u v check
+  pub checked : PairIs P n n u v check
   pub is : r ≡ cond check 1 0
 
 module _ (file places : List ℕ) (n : ℕ) (area codes : List ℕ) where
@@ -55,4 +56,4 @@ module _ (file places : List ℕ) (n : ℕ) (area codes : List ℕ) where
 
   -- entry i says whether code i of the one list passes with code i of the other
   abbrev pub Pairs : List ℕ → List ℕ → List ℕ → List ℕ → List ℕ → Type 0
-  Pairs lefts rights others = Each (λ (i r : ℕ). PairNumber file places lefts rights area n (getD codes i 0) (getD others i 0) r) (length codes)
+  Pairs lefts rights others = Each (λ (i r : ℕ). PairNumber (pairTables file places lefts rights area) n (getD codes i 0) (getD others i 0) r) (length codes)

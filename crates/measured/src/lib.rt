@@ -7,6 +7,7 @@ ghost use Rattle.search_area.specs.Answers.{Found};
 ghost use Rattle.token_pair.specs.Pair.{PairReady};
 ghost use Rattle.shortest_encoder.specs.Encoders.{MinimalReady, MinimalIs, GreedyReady, GreedyIs};
 ghost use Rattle.measured.specs.Measured.{LookupReady, JoinReady, PairsReady, PairNumber, Finds, Joins, Pairs};
+ghost use Rattle.tables.specs.Tables.{pairGiven, pairLent};
 
 mod pieces;
 mod typed;
@@ -34,9 +35,9 @@ fn pair_number(
     x: u32,
     y: u32,
 ) -> u32
-    requires { ⌜ PairReady (now file) (now places) (now lefts) (now rights) (now area) n n x y ⌝ }
+    requires { ⌜ PairReady (pairGiven file places lefts rights area) n n x y ⌝ }
     requires { ⌜ n ≤ 4096 ⌝ }
-    ensures { λ r. ⌜ PairNumber (now (file .entry)) (now (places .entry)) (now (lefts .entry)) (now (rights .entry)) (now (area .entry)) n x y r ⌝ }
+    ensures { λ r. ⌜ PairNumber (pairLent file places lefts rights area) n x y r ⌝ }
 {
     if token_pair::is_valid_pair_below(file, places, lefts, rights, area, n, n as u32, x, y) {
         return 1;
@@ -98,7 +99,7 @@ pub extern "C" fn measured_pairs(
     others: &[u32],
     out: &mut [u32],
 )
-    requires { ⌜ PairsReady (now file) (now places) (now lefts) (now rights) (now area) n (now codes) (now others) (now out) ⌝ }
+    requires { ⌜ PairsReady (pairGiven file places lefts rights area) n (now codes) (now others) (now out) ⌝ }
     ensures { λ r. ⌜ Pairs (now (file .entry)) (now (places .entry)) n (now (area .entry)) (now (codes .entry)) (now (lefts .entry)) (now (rights .entry)) (now (others .entry)) (now (out .entry)) (now (out .exit)) ⌝ }
 {
     let mut i = 0;

@@ -17,11 +17,13 @@ use Rattle.merge_encoder.specs.Encoding.{JoinsReady, WhenBuilt}
 use Rattle.merge_encoder.specs.Live.{kept, live}
 use Rattle.merge_encoder.specs.Steps.{JoinKey, KeyIs, Keyed, State, Waiting, During, Ran, RowJoined}
 use Rattle.merge_encoder.proofs.Queueing.{queued-cases, queued-none}
-use Rattle.tables.specs.Tables.{tables}
+use Rattle.tables.specs.Tables.{PairTables, withPrefixes}
 
 -- codes none of whose keys is row: the pass of row leaves them as they are
-module _ (file places lefts rights area : List ℕ) (n len : ℕ) (words work keys : List ℕ) (K : Keyed file places lefts rights area n len words work keys) (row : ℕ) (below : row < n)
-    (other : (i : ℕ) → i < 4096 → getD keys i 0 ≡ row → ⊥) (prefixes : List ℕ) (B : Built (tables file places lefts rights prefixes area) n) where
+module _ (P : PairTables) (n len : ℕ) (words work keys : List ℕ) (K : Keyed P n len words work keys) (row : ℕ) (below : row < n)
+    (other : (i : ℕ) → i < 4096 → getD keys i 0 ≡ row → ⊥) (prefixes : List ℕ) (B : Built (withPrefixes P prefixes) n) where
+  open PairTables P using (file)
+
   abbrev D : Dictionary
   D = dictionaryOf file
 
@@ -32,12 +34,12 @@ module _ (file places lefts rights area : List ℕ) (n len : ℕ) (words work ke
       here : i < 4096
       here = omega (arith, K .codes-ready .few)
 
-      keyed : KeyIs (JoinKey file places lefts rights area n) (isSet words i) (getD work i 0) (live (isSet words) work k (suc i)) (getD keys i 0)
+      keyed : KeyIs (JoinKey P n) (isSet words i) (getD work i 0) (live (isSet words) work k (suc i)) (getD keys i 0)
       keyed =
           let a : len - suc i ≡ k = omega arith in
-          subst (λ (j : ℕ). KeyIs (JoinKey file places lefts rights area n) (isSet words i) (getD work i 0) (live (isSet words) work j (suc i)) (getD keys i 0)) a (K .key i here)
+          subst (λ (j : ℕ). KeyIs (JoinKey P n) (isSet words i) (getD work i 0) (live (isSet words) work j (suc i)) (getD keys i 0)) a (K .key i here)
 
-      go : (b : Bool) (S : List ℕ) → KeyIs (JoinKey file places lefts rights area n) b (getD work i 0) S (getD keys i 0) → pass row (listed (dictionaryOf file) row) S ≡ S
+      go : (b : Bool) (S : List ℕ) → KeyIs (JoinKey P n) b (getD work i 0) S (getD keys i 0) → pass row (listed (dictionaryOf file) row) S ≡ S
           → pass row (listed (dictionaryOf file) row) (kept b (getD work i 0) S) ≡ kept b (getD work i 0) S
       go false S q h = h
       go true [] q h = refl
@@ -46,23 +48,23 @@ module _ (file places lefts rights area : List ℕ) (n len : ℕ) (words work ke
           pass-miss row (listed D row) (getD work i 0) y t m ∙ ap {B = List ℕ} (λ l. getD work i 0 ∷ l) h
 
 -- the entries of row's queue before `entry` are worked through
-pub record Emptying (file places lefts rights area : List ℕ) (n len : ℕ) (words₀ work₀ keys₀ heads₀ pool₀ : List ℕ) (row : ℕ) (words work keys heads pool : List ℕ) (count entry : ℕ) : Type 0 where
-  pub state : State file places lefts rights area n len words work keys heads pool count
+pub record Emptying (P : PairTables) (n len : ℕ) (words₀ work₀ keys₀ heads₀ pool₀ : List ℕ) (row : ℕ) (words work keys heads pool : List ℕ) (count entry : ℕ) : Type 0 where
+  pub state : State P n len words work keys heads pool count
   pub known : entry < count
   pub work-length : length work ≡ length work₀
   pub beyond : drop len work ≡ drop len work₀
-  pub during : WhenBuilt file places lefts rights area n (λ D. Waiting keys₀ heads₀ pool₀ row → During (isSet words) keys heads pool row entry 4096)
-  pub same : WhenBuilt file places lefts rights area n (λ D. pass row (listed D row) (live (isSet words) work len 0) ≡ pass row (listed D row) (live (isSet words₀) work₀ len 0))
+  pub during : WhenBuilt P n (λ D. Waiting keys₀ heads₀ pool₀ row → During (isSet words) keys heads pool row entry 4096)
+  pub same : WhenBuilt P n (λ D. pass row (listed D row) (live (isSet words) work len 0) ≡ pass row (listed D row) (live (isSet words₀) work₀ len 0))
 
-module _ (file places lefts rights area : List ℕ) (n len : ℕ) (words₀ work₀ keys₀ heads₀ pool₀ : List ℕ) (row : ℕ) (T : JoinsReady file places lefts rights area n) (below : row < n) where
+module _ (P : PairTables) (n len : ℕ) (words₀ work₀ keys₀ heads₀ pool₀ : List ℕ) (row : ℕ) (T : JoinsReady P n) (below : row < n) where
   few : n ≤ 4096
   few = T .rows-ready .places-ready .placed .few
 
   not-none : row ≡ none → ⊥
   not-none e = omega (arith, below, few)
 
-  pub emptying-start : (count queue entry : ℕ) → State file places lefts rights area n len words₀ work₀ keys₀ heads₀ pool₀ count → queue ≡ row → entry ≡ getD heads₀ queue 0
-      → Emptying file places lefts rights area n len words₀ work₀ keys₀ heads₀ pool₀ row words₀ work₀ keys₀ heads₀ pool₀ count entry
+  pub emptying-start : (count queue entry : ℕ) → State P n len words₀ work₀ keys₀ heads₀ pool₀ count → queue ≡ row → entry ≡ getD heads₀ queue 0
+      → Emptying P n len words₀ work₀ keys₀ heads₀ pool₀ row words₀ work₀ keys₀ heads₀ pool₀ count entry
   emptying-start count queue entry S q e =
       let f : entry ≡ getD heads₀ row 0 = e ∙ ap (λ (r : ℕ). getD heads₀ r 0) q in
       record {
@@ -78,7 +80,7 @@ module _ (file places lefts rights area : List ℕ) (n len : ℕ) (words₀ work
         same = λ prefixes B. refl;
       }
 
-  module _ (words work keys heads pool : List ℕ) (count entry : ℕ) (E : Emptying file places lefts rights area n len words₀ work₀ keys₀ heads₀ pool₀ row words work keys heads pool count entry) where
+  module _ (words work keys heads pool : List ℕ) (count entry : ℕ) (E : Emptying P n len words₀ work₀ keys₀ heads₀ pool₀ row words work keys heads pool count entry) where
     older : getD pool entry 0 / 4096 ≤ entry - 1
     older = E .state .queues .older entry (E .known)
 
@@ -97,8 +99,8 @@ module _ (file places lefts rights area : List ℕ) (n len : ℕ) (words₀ work
             (R .due i h e);
       }
 
-      pub emptying-more : (words' work' keys' heads' pool' : List ℕ) (r : ℕ) → Ran file places lefts rights area n len words work keys heads pool count row at words' work' keys' heads' pool' r
-          → Emptying file places lefts rights area n len words₀ work₀ keys₀ heads₀ pool₀ row words' work' keys' heads' pool' r next
+      pub emptying-more : (words' work' keys' heads' pool' : List ℕ) (r : ℕ) → Ran P n len words work keys heads pool count row at words' work' keys' heads' pool' r
+          → Emptying P n len words₀ work₀ keys₀ heads₀ pool₀ row words' work' keys' heads' pool' r next
       emptying-more words' work' keys' heads' pool' r R = record {
         state = R .state;
         known = omega (arith, emptying-less, E .known, R .least);
@@ -120,7 +122,7 @@ module _ (file places lefts rights area : List ℕ) (n len : ℕ) (words₀ work
           w)
           (R .due i h e)
 
-      pub emptying-end : RowJoined file places lefts rights area n len words₀ work₀ keys₀ heads₀ pool₀ row words work keys heads pool count
+      pub emptying-end : RowJoined P n len words₀ work₀ keys₀ heads₀ pool₀ row words work keys heads pool count
       emptying-end = record {
         state = E .state;
         work-length = E .work-length;
@@ -131,7 +133,7 @@ module _ (file places lefts rights area : List ℕ) (n len : ℕ) (words₀ work
             record { least = λ i h. above i h; queued = λ i h s. R .queued i h (above i h) s };
         is = λ prefixes B W.
             let R = E .during prefixes B W in
-            sym (left-alone file places lefts rights area n len words work keys (E .state .keyed) row below (λ i h. no-more R 4096 i h h) prefixes B len 0 (omega arith))
+            sym (left-alone P n len words work keys (E .state .keyed) row below (λ i h. no-more R 4096 i h h) prefixes B len 0 (omega arith))
             ∙ E .same prefixes B;
       }
         where

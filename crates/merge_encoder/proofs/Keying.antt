@@ -15,20 +15,21 @@ use Rattle.merge_encoder.specs.Live.{live}
 use Rattle.merge_encoder.specs.Queues.{Queued, Queues}
 use Rattle.merge_encoder.specs.Steps.{JoinKey, NextKey, FillReady, RenewReady, Renewed, FirstKeys}
 use Rattle.merge_encoder.proofs.Living.{live-set, live-few}
+use Rattle.tables.specs.Tables.{PairTables}
 
 -- the keys of the places before next - 1 are found; the others have none
-pub record Keying (file places lefts rights area : List ℕ) (n len : ℕ) (work keys heads pool : List ℕ) (count next : ℕ) : Type 0 where
+pub record Keying (P : PairTables) (n len : ℕ) (work keys heads pool : List ℕ) (count next : ℕ) : Type 0 where
   pub queues : Queues heads pool count
   pub keys-room : length keys ≡ 4096
   pub low : 0 < next
   pub high : next ≤ len - 1 + 1
   pub few : count ≤ next
-  pub found : (i : ℕ) → suc i < next → JoinKey file places lefts rights area n (getD work i 0) (getD work (suc i) 0) (getD keys i 0)
+  pub found : (i : ℕ) → suc i < next → JoinKey P n (getD work i 0) (getD work (suc i) 0) (getD keys i 0)
   pub rest : (i : ℕ) → i < 4096 → next ≤ suc i → getD keys i 0 ≡ none
   pub queued : (i : ℕ) → i < 4096 → (getD keys i 0 ≡ none → ⊥) → Queued pool (getD heads (getD keys i 0) 0) i
 
-module _ (file places lefts rights area : List ℕ) (n len : ℕ) (work keys₀ heads₀ pool₀ : List ℕ) (R : FillReady file places lefts rights area n len work keys₀ heads₀ pool₀) where
-  pub keying-start : Keying file places lefts rights area n len work keys₀ heads₀ pool₀ 1 1
+module _ (P : PairTables) (n len : ℕ) (work keys₀ heads₀ pool₀ : List ℕ) (R : FillReady P n len work keys₀ heads₀ pool₀) where
+  pub keying-start : Keying P n len work keys₀ heads₀ pool₀ 1 1
   keying-start = record {
     queues = R .queues;
     keys-room = R .keys-room;
@@ -40,9 +41,9 @@ module _ (file places lefts rights area : List ℕ) (n len : ℕ) (work keys₀ 
     queued = λ i h s. absurd (s (R .no-keys i h));
   }
 
-  module _ (keys heads pool : List ℕ) (count next : ℕ) (K : Keying file places lefts rights area n len work keys heads pool count next) where
+  module _ (keys heads pool : List ℕ) (count next : ℕ) (K : Keying P n len work keys heads pool count next) where
     module _ (l : next < len) where
-      pub keying-ready : RenewReady file places lefts rights area n len work keys heads pool count (next - 1) next
+      pub keying-ready : RenewReady P n len work keys heads pool count (next - 1) next
       keying-ready = record {
         tables = R .tables;
         codes-ready = R .codes-ready;
@@ -53,7 +54,7 @@ module _ (file places lefts rights area : List ℕ) (n len : ℕ) (work keys₀ 
         next-below = omega arith;
       }
 
-      module _ (keys' heads' pool' : List ℕ) (r : ℕ) (N : Renewed file places lefts rights area n len work keys heads pool count (next - 1) next keys' heads' pool' r) where
+      module _ (keys' heads' pool' : List ℕ) (r : ℕ) (N : Renewed P n len work keys heads pool count (next - 1) next keys' heads' pool' r) where
         key-below : (i : ℕ) → i < 4096 → (getD keys i 0 ≡ none → ⊥) → getD keys i 0 < 4096
         key-below i h s = ⊎-elim
             (λ m. ⊎-elim (λ e. absurd (s e)) (λ w. omega (arith, R .tables .rows-ready .places-ready .placed .few)) (K .found i m .bound))
@@ -67,7 +68,7 @@ module _ (file places lefts rights area : List ℕ) (n len : ℕ) (work keys₀ 
             let t : getD keys i 0 ≡ none → ⊥ = λ w. s (e ∙ w) in
             rw e (N .longer .moved (getD keys i 0) i (key-below i h t) (K .queued i h t))
 
-        pub keying-more : Keying file places lefts rights area n len work keys' heads' pool' r (next + 1)
+        pub keying-more : Keying P n len work keys' heads' pool' r (next + 1)
         keying-more = record {
           queues = N .longer .queues;
           keys-room = N .keys-room;
@@ -85,7 +86,7 @@ module _ (file places lefts rights area : List ℕ) (n len : ℕ) (work keys₀ 
           queued = λ i h s. queued' i h (ℕ-discrete i (next - 1)) s;
         }
 
-    pub keying-end : len ≤ next → FirstKeys file places lefts rights area n len work keys heads pool count
+    pub keying-end : len ≤ next → FirstKeys P n len work keys heads pool count
     keying-end l = record {
       state = λ words on. record {
         keyed = record {
@@ -99,10 +100,10 @@ module _ (file places lefts rights area : List ℕ) (n len : ℕ) (work keys₀ 
       waiting = record { least = λ i h. omega arith; queued = K .queued };
     }
       where
-        here : (i : ℕ) → suc i < len → NextKey (JoinKey file places lefts rights area n) (getD work i 0) (live allSet work (len - suc i) (suc i)) (getD keys i 0)
+        here : (i : ℕ) → suc i < len → NextKey (JoinKey P n) (getD work i 0) (live allSet work (len - suc i) (suc i)) (getD keys i 0)
         here i m =
             let e : len - suc i ≡ suc (len - suc (suc i)) = omega arith in
             rw (e, live-set allSet work (len - suc (suc i)) (suc i) (all-below (suc i) (omega (arith, R .codes-ready .few)))) (K .found i (omega arith))
 
-        end : (i : ℕ) → i < 4096 → len ≤ suc i → NextKey (JoinKey file places lefts rights area n) (getD work i 0) (live allSet work (len - suc i) (suc i)) (getD keys i 0)
+        end : (i : ℕ) → i < 4096 → len ≤ suc i → NextKey (JoinKey P n) (getD work i 0) (live allSet work (len - suc i) (suc i)) (getD keys i 0)
         end i h m = let e : len - suc i ≡ 0 = omega arith in rw e (K .rest i h (omega (arith, K .high)))

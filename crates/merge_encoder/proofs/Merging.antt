@@ -21,20 +21,22 @@ use Rattle.merge_encoder.specs.Steps.{ByteCodes, FillReady, State, Waiti
 use Rattle.merge_encoder.proofs.Living.{live-all, live-few, live-codes}
 use Rattle.merge_encoder.proofs.Queueing.{queues-start}
 use Rattle.merge_encoder.proofs.Passing.{passed-stage}
-use Rattle.tables.specs.Tables.{tables}
+use Rattle.tables.specs.Tables.{PairTables, withPrefixes}
 
 -- the passes of the rows below `row` are made
-pub record Merging (file places lefts rights area : List ℕ) (n len : ℕ) (words₀ work₀ words work keys heads pool : List ℕ) (count row : ℕ) : Type 0 where
+pub record Merging (P : PairTables) (n len : ℕ) (words₀ work₀ words work keys heads pool : List ℕ) (count row : ℕ) : Type 0 where
   pub few : row ≤ n
-  pub state : State file places lefts rights area n len words work keys heads pool count
+  pub state : State P n len words work keys heads pool count
   pub work-length : length work ≡ length work₀
   pub beyond : drop len work ≡ drop len work₀
-  pub waiting : WhenBuilt file places lefts rights area n (λ D. Waiting keys heads pool row)
-  pub is : WhenBuilt file places lefts rights area n (λ D. live (isSet words) work len 0 ≡ passedBelow D row (live (isSet words₀) work₀ len 0))
+  pub waiting : WhenBuilt P n (λ D. Waiting keys heads pool row)
+  pub is : WhenBuilt P n (λ D. live (isSet words) work len 0 ≡ passedBelow D row (live (isSet words₀) work₀ len 0))
 
-module _ (file places lefts rights area : List ℕ) (n len : ℕ) (words₀ work₀ : List ℕ) where
-  pub merging-start : (keys heads pool : List ℕ) (count : ℕ) → State file places lefts rights area n len words₀ work₀ keys heads pool count → Waiting keys heads pool 0
-      → Merging file places lefts rights area n len words₀ work₀ words₀ work₀ keys heads pool count 0
+module _ (P : PairTables) (n len : ℕ) (words₀ work₀ : List ℕ) where
+  open PairTables P using (file)
+
+  pub merging-start : (keys heads pool : List ℕ) (count : ℕ) → State P n len words₀ work₀ keys heads pool count → Waiting keys heads pool 0
+      → Merging P n len words₀ work₀ words₀ work₀ keys heads pool count 0
   merging-start keys heads pool count S W = record {
     few = omega arith;
     state = S;
@@ -44,9 +46,9 @@ module _ (file places lefts rights area : List ℕ) (n len : ℕ) (words₀ work
     is = λ prefixes B. refl;
   }
 
-  module _ (words work keys heads pool : List ℕ) (count row : ℕ) (M : Merging file places lefts rights area n len words₀ work₀ words work keys heads pool count row) where
-    pub merging-more : row < n → (words' work' keys' heads' pool' : List ℕ) (r : ℕ) → RowJoined file places lefts rights area n len words work keys heads pool row words' work' keys' heads' pool' r
-        → Merging file places lefts rights area n len words₀ work₀ words' work' keys' heads' pool' r (row + 1)
+  module _ (words work keys heads pool : List ℕ) (count row : ℕ) (M : Merging P n len words₀ work₀ words work keys heads pool count row) where
+    pub merging-more : row < n → (words' work' keys' heads' pool' : List ℕ) (r : ℕ) → RowJoined P n len words work keys heads pool row words' work' keys' heads' pool' r
+        → Merging P n len words₀ work₀ words' work' keys' heads' pool' r (row + 1)
     merging-more h words' work' keys' heads' pool' r J = record {
       few = omega arith;
       state = J .state;
@@ -58,7 +60,7 @@ module _ (file places lefts rights area : List ℕ) (n len : ℕ) (words₀ work
           ∙ ap (λ (p : ℕ). passedBelow (dictionaryOf file) p (live (isSet words₀) work₀ len 0)) (sym (add-one row));
     }
 
-    pub merging-end : n ≤ row → Merged file places lefts rights area n len words₀ work₀ words work
+    pub merging-end : n ≤ row → Merged P n len words₀ work₀ words work
     merging-end h =
         let e : row ≡ n = omega (arith, M .few) in
         record {
@@ -69,12 +71,14 @@ module _ (file places lefts rights area : List ℕ) (n len : ℕ) (words₀ work
         }
 
 -- the codes of a text's bytes, all of them live, and no keys
-module _ (file places lefts rights area : List ℕ) (n : ℕ) (text out work : List ℕ) (R : EncodeReady file places lefts rights area n text out work) where
-  pub joins-ready : JoinsReady file places lefts rights area n
+module _ (P : PairTables) (n : ℕ) (text out work : List ℕ) (R : EncodeReady P n text out work) where
+  open PairTables P using (file, places, lefts, rights, area)
+
+  pub joins-ready : JoinsReady P n
   joins-ready = record { rows-ready = R .rows-ready; parts-ready = R .parts-ready }
 
   module _ (work1 : List ℕ) (F : ByteCodes file places area n text work work1) where
-    pub fill-ready : FillReady file places lefts rights area n (length text) work1 (replicate 4096 none) (replicate 4096 0) (replicate 12289 0)
+    pub fill-ready : FillReady P n (length text) work1 (replicate 4096 none) (replicate 4096 0) (replicate 12289 0)
     fill-ready = record {
       tables = joins-ready;
       codes-ready = record { few = R .short; room = omega (arith, R .work-room, F .work-length); codes = F .codes };
@@ -83,7 +87,7 @@ module _ (file places lefts rights area : List ℕ) (n : ℕ) (text out work : L
       no-keys = λ i h. getD-replicate 4096 i none 0 h;
     }
 
-    module _ (words : List ℕ) (on : isSet words ≡ allSet) (words' work2 : List ℕ) (M : Merged file places lefts rights area n (length text) words work1 words' work2)
+    module _ (words : List ℕ) (on : isSet words ≡ allSet) (words' work2 : List ℕ) (M : Merged P n (length text) words work1 words' work2)
         (out' : List ℕ) (r : ℕ) (A : Gathered words' work2 (length text) out out' r) where
       abbrev S : List ℕ
       S = live (isSet words') work2 (length text) 0
@@ -97,16 +101,16 @@ module _ (file places lefts rights area : List ℕ) (n : ℕ) (text out work : L
       first : live (isSet words) work1 (length text) 0 ≡ take (length text) work1
       first = live-all (isSet words) work1 (length text) 0 (λ p a b. all-on p (omega (arith, R .short))) (omega (arith, R .work-room, F .work-length))
 
-      is-encoded : WhenBuilt file places lefts rights area n (λ D. live (isSet words') work2 (length text) 0 ≡ encode D text)
+      is-encoded : WhenBuilt P n (λ D. live (isSet words') work2 (length text) 0 ≡ encode D text)
       is-encoded prefixes B =
           let D = dictionaryOf file in
           M .built prefixes B
           ∙ ap (passedBelow D n) (first ∙ F .built lefts rights prefixes B)
           ∙ passed-stage D n text
-          ∙ ap (λ (p : ℕ). stage D p text) (sym (count-is (tables file places lefts rights prefixes area) n B))
-          ∙ sym (merge-is-stage D (lawful-is (tables file places lefts rights prefixes area) n B) text)
+          ∙ ap (λ (p : ℕ). stage D p text) (sym (count-is (withPrefixes P prefixes) n B))
+          ∙ sym (merge-is-stage D (lawful-is (withPrefixes P prefixes) n B) text)
 
-      pub encoded : Encoded file places lefts rights area n text out out' work work2 r
+      pub encoded : Encoded P n text out out' work work2 r
       encoded = record {
         few = few;
         codes = λ i h. rw (A .is, List·getD-append S (drop r out) 0 i (omega (arith, A .count))) (live-codes (isSet words') work2 n (length text) 0 (λ p l. M .codes p (omega arith)) i (omega (arith, A .count)));

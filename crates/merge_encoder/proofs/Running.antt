@@ -18,14 +18,14 @@ use Rattle.merge_encoder.specs.Live.{live, NextLive, LastLive}
 use Rattle.merge_encoder.specs.Queues.{Queued}
 use Rattle.merge_encoder.specs.Steps.{JoinKey, KeyIs, Keyed, State, Later, Around, Turned, Behind, During, Ran}
 use Rattle.merge_encoder.proofs.Joining.{here-on, here-below, here-next}
-use Rattle.tables.specs.Tables.{tables}
+use Rattle.tables.specs.Tables.{PairTables, withPrefixes}
 
 -- a key is a row or none
-pub key-below : (file places lefts rights area : List ℕ) (n len : ℕ) (words work keys : List ℕ) → Keyed file places lefts rights area n len words work keys
+pub key-below : (P : PairTables) (n len : ℕ) (words work keys : List ℕ) → Keyed P n len words work keys
     → (i : ℕ) → i < 4096 → (getD keys i 0 ≡ none → ⊥) → getD keys i 0 < n
-key-below file places lefts rights area n len words work keys K i h s = go (isSet words i) (live (isSet words) work (len - suc i) (suc i)) (K .key i h)
+key-below P n len words work keys K i h s = go (isSet words i) (live (isSet words) work (len - suc i) (suc i)) (K .key i h)
   where
-    go : (b : Bool) (S : List ℕ) → KeyIs (JoinKey file places lefts rights area n) b (getD work i 0) S (getD keys i 0) → getD keys i 0 < n
+    go : (b : Bool) (S : List ℕ) → KeyIs (JoinKey P n) b (getD work i 0) S (getD keys i 0) → getD keys i 0 < n
     go false S q = absurd (s q)
     go true [] q = absurd (s q)
     go true (y ∷ t) q = ⊎-elim (λ e. absurd (s e)) (λ l. l) (q .bound)
@@ -42,18 +42,18 @@ closed bits keys heads pool row entry at f R = record {
       (R .due i h e);
 }
 
-module _ (file places lefts rights area : List ℕ) (n len : ℕ) (T : JoinsReady file places lefts rights area n)
+module _ (P : PairTables) (n len : ℕ) (T : JoinsReady P n)
     (words work keys heads pool : List ℕ) (count row last at next after : ℕ)
-    (S : State file places lefts rights area n len words work keys heads pool count) (A : Around (isSet words) keys n len row last at next after)
-    (words' work' keys' heads' pool' : List ℕ) (r : ℕ) (J : Turned file places lefts rights area n len words work keys heads pool count row last at next words' work' keys' heads' pool' r) where
+    (S : State P n len words work keys heads pool count) (A : Around (isSet words) keys n len row last at next after)
+    (words' work' keys' heads' pool' : List ℕ) (r : ℕ) (J : Turned P n len words work keys heads pool count row last at next words' work' keys' heads' pool' r) where
   few : n ≤ 4096
   few = T .rows-ready .places-ready .placed .few
 
   -- which place it is
-  cases : {P : Type 0} (i : ℕ) → (i ≡ at → P) → (i ≡ next → P) → (last < at → i ≡ last → P) → ((i ≡ at → ⊥) → (i ≡ next → ⊥) → (last < at → i ≡ last → ⊥) → P) → P
-  cases {P} i a b c d = go (ℕ-discrete i at) (ℕ-discrete i next) (ℕ-discrete i last)
+  cases : {H : Type 0} (i : ℕ) → (i ≡ at → H) → (i ≡ next → H) → (last < at → i ≡ last → H) → ((i ≡ at → ⊥) → (i ≡ next → ⊥) → (last < at → i ≡ last → ⊥) → H) → H
+  cases {H} i a b c d = go (ℕ-discrete i at) (ℕ-discrete i next) (ℕ-discrete i last)
     where
-      go : Dec (i ≡ at) → Dec (i ≡ next) → Dec (i ≡ last) → P
+      go : Dec (i ≡ at) → Dec (i ≡ next) → Dec (i ≡ last) → H
       go (yes z) y x = a z
       go (no z) (yes y) x = b y
       go (no z) (no y) (yes x) = ⊎-elim (λ l. c l x) (λ l. d z y (λ m w. omega arith)) (lt-or-ge last at)
@@ -73,7 +73,7 @@ module _ (file places lefts rights area : List ℕ) (n len : ℕ) (T : JoinsRead
       go (yes z) = rw z gone
       go (no z) = same p z ∙ e
 
-  module _ (prefixes : List ℕ) (B : Built (tables file places lefts rights prefixes area) n) (entry : ℕ) (known : entry < count) (R : During (isSet words) keys heads pool row entry at) where
+  module _ (prefixes : List ℕ) (B : Built (withPrefixes P prefixes) n) (entry : ℕ) (known : entry < count) (R : During (isSet words) keys heads pool row entry at) where
     not-none : row ≡ none → ⊥
     not-none e = omega (arith, A .below, few)
 
@@ -94,13 +94,13 @@ module _ (file places lefts rights area : List ℕ) (n len : ℕ) (T : JoinsRead
         j = b .place
 
         on : isSet words i ≡ true
-        on = here-on file places lefts rights area n len words work keys T (S .keyed) row i (A .below) h e
+        on = here-on P n len words work keys T (S .keyed) row i (A .below) h e
 
         low : i < len
-        low = here-below file places lefts rights area n len words work keys T (S .keyed) row i (A .below) h e
+        low = here-below P n len words work keys T (S .keyed) row i (A .below) h e
 
         inside : next < len
-        inside = here-next file places lefts rights area n len words work keys T (S .keyed) row at (A .below) (A .at-below) (A .here) next (A .next-is)
+        inside = here-next P n len words work keys T (S .keyed) row at (A .below) (A .at-below) (A .here) next (A .next-is)
 
         strict : next ≤ i → next < i
         strict l = ⊎-elim (λ m. m) (λ m. absurd (ne (omega arith))) (lt-or-ge next i)
@@ -126,7 +126,7 @@ module _ (file places lefts rights area : List ℕ) (n len : ℕ) (T : JoinsRead
         (λ x y z.
         let e : getD keys' i 0 ≡ getD keys i 0 = J .others i x y z in
         let t : getD keys i 0 ≡ none → ⊥ = λ w. s (e ∙ w) in
-        let b : getD keys i 0 < n = key-below file places lefts rights area n len words work keys (S .keyed) i h t in
+        let b : getD keys i 0 < n = key-below P n len words work keys (S .keyed) i h t in
         rw e (J .longer .moved (getD keys i 0) i (omega (arith, few)) (R .queued i h (omega arith) t)))
 
     due' : (i : ℕ) → i < 4096 → getD keys' i 0 ≡ row → (i ≡ after) ⊎ (Queued pool' entry i ⊎ Behind (isSet words') keys' row i)
@@ -145,18 +145,18 @@ module _ (file places lefts rights area : List ℕ) (n len : ℕ) (T : JoinsRead
     during' = record { least = least'; queued = queued'; due = due' }
 
 -- joins to row were made, and the next one may be at the place at
-pub record Running (file places lefts rights area : List ℕ) (n len : ℕ) (words₀ work₀ keys₀ heads₀ pool₀ : List ℕ) (count₀ row first : ℕ) (words work keys heads pool : List ℕ) (count at : ℕ) : Type 0 where
-  pub state : State file places lefts rights area n len words work keys heads pool count
+pub record Running (P : PairTables) (n len : ℕ) (words₀ work₀ keys₀ heads₀ pool₀ : List ℕ) (count₀ row first : ℕ) (words work keys heads pool : List ℕ) (count at : ℕ) : Type 0 where
+  pub state : State P n len words work keys heads pool count
   pub placed : at < 4096
   pub work-length : length work ≡ length work₀
   pub beyond : drop len work ≡ drop len work₀
   pub least : count₀ ≤ count
-  pub during : WhenBuilt file places lefts rights area n (λ D. (entry : ℕ) → entry < count₀ → During (isSet words₀) keys₀ heads₀ pool₀ row entry first → During (isSet words) keys heads pool row entry at)
-  pub same : WhenBuilt file places lefts rights area n (λ D. pass row (listed D row) (live (isSet words) work len 0) ≡ pass row (listed D row) (live (isSet words₀) work₀ len 0))
+  pub during : WhenBuilt P n (λ D. (entry : ℕ) → entry < count₀ → During (isSet words₀) keys₀ heads₀ pool₀ row entry first → During (isSet words) keys heads pool row entry at)
+  pub same : WhenBuilt P n (λ D. pass row (listed D row) (live (isSet words) work len 0) ≡ pass row (listed D row) (live (isSet words₀) work₀ len 0))
 
-module _ (file places lefts rights area : List ℕ) (n len : ℕ) (words₀ work₀ keys₀ heads₀ pool₀ : List ℕ) (count₀ row first : ℕ) (T : JoinsReady file places lefts rights area n) (below : row < n) where
-  pub running-start : State file places lefts rights area n len words₀ work₀ keys₀ heads₀ pool₀ count₀ → first < 4096
-      → Running file places lefts rights area n len words₀ work₀ keys₀ heads₀ pool₀ count₀ row first words₀ work₀ keys₀ heads₀ pool₀ count₀ first
+module _ (P : PairTables) (n len : ℕ) (words₀ work₀ keys₀ heads₀ pool₀ : List ℕ) (count₀ row first : ℕ) (T : JoinsReady P n) (below : row < n) where
+  pub running-start : State P n len words₀ work₀ keys₀ heads₀ pool₀ count₀ → first < 4096
+      → Running P n len words₀ work₀ keys₀ heads₀ pool₀ count₀ row first words₀ work₀ keys₀ heads₀ pool₀ count₀ first
   running-start S h = record {
     state = S;
     placed = h;
@@ -167,8 +167,8 @@ module _ (file places lefts rights area : List ℕ) (n len : ℕ) (words₀ work
     same = λ prefixes B. refl;
   }
 
-  module _ (words work keys heads pool : List ℕ) (count at : ℕ) (R : Running file places lefts rights area n len words₀ work₀ keys₀ heads₀ pool₀ count₀ row first words work keys heads pool count at) where
-    ran : (at < 4096 → getD keys at 0 ≡ row → Behind (isSet words) keys row at) → Ran file places lefts rights area n len words₀ work₀ keys₀ heads₀ pool₀ count₀ row first words work keys heads pool count
+  module _ (words work keys heads pool : List ℕ) (count at : ℕ) (R : Running P n len words₀ work₀ keys₀ heads₀ pool₀ count₀ row first words work keys heads pool count at) where
+    ran : (at < 4096 → getD keys at 0 ≡ row → Behind (isSet words) keys row at) → Ran P n len words₀ work₀ keys₀ heads₀ pool₀ count₀ row first words work keys heads pool count
     ran f = record {
       state = R .state;
       work-length = R .work-length;
@@ -179,32 +179,32 @@ module _ (file places lefts rights area : List ℕ) (n len : ℕ) (words₀ work
     }
 
     -- the place has another key
-    pub running-other : (getD keys at 0 ≡ row → ⊥) → Ran file places lefts rights area n len words₀ work₀ keys₀ heads₀ pool₀ count₀ row first words work keys heads pool count
+    pub running-other : (getD keys at 0 ≡ row → ⊥) → Ran P n len words₀ work₀ keys₀ heads₀ pool₀ count₀ row first words work keys heads pool count
     running-other s = ran (λ h e. absurd (s e))
 
     module _ (here : getD keys at 0 ≡ row) where
       pub running-below : at < len
-      running-below = here-below file places lefts rights area n len words work keys T (R .state .keyed) row at below (R .placed) here
+      running-below = here-below P n len words work keys T (R .state .keyed) row at below (R .placed) here
 
       pub running-next : (next : ℕ) → NextLive (isSet words) at len next → next < len
-      running-next next N = here-next file places lefts rights area n len words work keys T (R .state .keyed) row at below (R .placed) here next N
+      running-next next N = here-next P n len words work keys T (R .state .keyed) row at below (R .placed) here next N
 
       module _ (last : ℕ) (L : LastLive (isSet words) at last) (b : Bool) (F : Later keys last at row b) where
         -- the live place before it goes first
-        pub running-later : b ≡ true → Ran file places lefts rights area n len words₀ work₀ keys₀ heads₀ pool₀ count₀ row first words work keys heads pool count
+        pub running-later : b ≡ true → Ran P n len words₀ work₀ keys₀ heads₀ pool₀ count₀ row first words work keys heads pool count
         running-later e = ran (λ h z. record { place = last; before = F .yes e .0; clear = λ p f g. L .clear p g (λ _. f); key = F .yes e .1 })
 
         module _ (e : b ≡ false) (next : ℕ) (N : NextLive (isSet words) at len next) (after : ℕ) (M : NextLive (isSet words) next len after) where
           pub around : Around (isSet words) keys n len row last at next after
           around = record { below = below; at-below = R .placed; here = here; first = F .no e; last-is = L; next-is = N; after-is = M }
 
-          module _ (words' work' keys' heads' pool' : List ℕ) (r : ℕ) (J : Turned file places lefts rights area n len words work keys heads pool count row last at next words' work' keys' heads' pool' r) where
-            during-after : WhenBuilt file places lefts rights area n (λ D. (entry : ℕ) → entry < count₀ → During (isSet words₀) keys₀ heads₀ pool₀ row entry first → During (isSet words') keys' heads' pool' row entry after)
+          module _ (words' work' keys' heads' pool' : List ℕ) (r : ℕ) (J : Turned P n len words work keys heads pool count row last at next words' work' keys' heads' pool' r) where
+            during-after : WhenBuilt P n (λ D. (entry : ℕ) → entry < count₀ → During (isSet words₀) keys₀ heads₀ pool₀ row entry first → During (isSet words') keys' heads' pool' row entry after)
             during-after prefixes B entry l Q =
-                during' file places lefts rights area n len T words work keys heads pool count row last at next after (R .state) around words' work' keys' heads' pool' r J prefixes B entry
+                during' P n len T words work keys heads pool count row last at next after (R .state) around words' work' keys' heads' pool' r J prefixes B entry
                 (omega (arith, R .least)) (R .during prefixes B entry l Q)
 
-            pub running-more : (after ≡ len → ⊥) → Running file places lefts rights area n len words₀ work₀ keys₀ heads₀ pool₀ count₀ row first words' work' keys' heads' pool' r after
+            pub running-more : (after ≡ len → ⊥) → Running P n len words₀ work₀ keys₀ heads₀ pool₀ count₀ row first words' work' keys' heads' pool' r after
             running-more h = record {
               state = J .state;
               placed = omega (arith, M .most, R .state .keyed .codes-ready .few);
@@ -216,14 +216,14 @@ module _ (file places lefts rights area : List ℕ) (n len : ℕ) (words₀ work
             }
 
             -- nothing is live after it
-            pub running-end : after ≡ len → Ran file places lefts rights area n len words₀ work₀ keys₀ heads₀ pool₀ count₀ row first words' work' keys' heads' pool' r
+            pub running-end : after ≡ len → Ran P n len words₀ work₀ keys₀ heads₀ pool₀ count₀ row first words' work' keys' heads' pool' r
             running-end h = record {
               state = J .state;
               work-length = J .work-length ∙ R .work-length;
               beyond = J .beyond ∙ R .beyond;
               least = omega (arith, R .least, J .longer .least);
               during = λ prefixes B entry l Q. closed (isSet words') keys' heads' pool' row entry after
-                  (λ p z. absurd (let w = here-below file places lefts rights area n len words' work' keys' T (J .state .keyed) row after below p z in omega (arith, h)))
+                  (λ p z. absurd (let w = here-below P n len words' work' keys' T (J .state .keyed) row after below p z in omega (arith, h)))
                   (during-after prefixes B entry l Q);
               same = λ prefixes B. J .same prefixes B ∙ R .same prefixes B;
             }

@@ -13,6 +13,7 @@ use Rattle.theory.specs.Merge.{byteCodes}
 use Rattle.theory.proofs.Lists.{lt-or-ge}
 use Rattle.merge_encoder.specs.Encoding.{WhenBuilt, Codes}
 use Rattle.merge_encoder.specs.Steps.{ByteCode, KnownBytes, KnownCode, ByteCodes}
+use Rattle.tables.specs.Tables.{pairTables}
 
 module _ (file places area : List ℕ) (n : ℕ) where
   pub known-start : KnownBytes file places area n (replicate 256 none)
@@ -35,7 +36,7 @@ pub record Filling (file places area : List ℕ) (n : ℕ) (text work : List ℕ
   pub codes : Codes i now n
   pub work-length : length now ≡ length work
   pub beyond : drop (length text) now ≡ drop (length text) work
-  pub built : (lefts rights : List ℕ) → WhenBuilt file places lefts rights area n (λ D. take i now ++ byteCodes D (drop i text) ≡ byteCodes D text)
+  pub built : (lefts rights : List ℕ) → WhenBuilt (pairTables file places lefts rights area) n (λ D. take i now ++ byteCodes D (drop i text) ≡ byteCodes D text)
 
 module _ (file places area : List ℕ) (n : ℕ) (text work : List ℕ) (room : length text ≤ length work) where
   pub fill-start : Filling file places area n text work 0 work

@@ -13,11 +13,12 @@ use Rattle.theory.specs.Paper.{pass, listed}
 use Rattle.merge_encoder.specs.Encoding.{JoinsReady, WhenBuilt, Codes}
 use Rattle.merge_encoder.specs.Live.{live, NextLive, LastLive}
 use Rattle.merge_encoder.specs.Queues.{Queued, Queues, Longer}
+use Rattle.tables.specs.Tables.{PairTables, pairTables}
 
 -- r is a row, and the row that is the byte b alone
 pub record ByteCode (file places area : List ℕ) (n b r : ℕ) : Type 0 where
   pub below : r < n
-  pub built : (lefts rights : List ℕ) → WhenBuilt file places lefts rights area n (λ D. r ≡ D .code b)
+  pub built : (lefts rights : List ℕ) → WhenBuilt (pairTables file places lefts rights area) n (λ D. r ≡ D .code b)
 
 -- the rows of the bytes met so far, none for the others
 abbrev pub KnownBytes : List ℕ → List ℕ → List ℕ → ℕ → List ℕ → Type 0
@@ -32,7 +33,7 @@ pub record ByteCodes (file places area : List ℕ) (n : ℕ) (text work work' : 
   pub codes : Codes (length text) work' n
   pub work-length : length work' ≡ length work
   pub beyond : drop (length text) work' ≡ drop (length text) work
-  pub built : (lefts rights : List ℕ) → WhenBuilt file places lefts rights area n (λ D. take (length text) work' ≡ byteCodes D text)
+  pub built : (lefts rights : List ℕ) → WhenBuilt (pairTables file places lefts rights area) n (λ D. take (length text) work' ≡ byteCodes D text)
 
 -- k is the row of D that has x and y as its parts, or none where there is no such row
 pub record JoinOf (D : Dictionary) (n x y k : ℕ) : Type 0 where
@@ -40,9 +41,9 @@ pub record JoinOf (D : Dictionary) (n x y k : ℕ) : Type 0 where
   pub only : (r : ℕ) → r < n → listed D r x y ≡ true → k ≡ r
 
 -- k is the key of a code x where the next code is y
-pub record JoinKey (file places lefts rights area : List ℕ) (n x y k : ℕ) : Type 0 where
+pub record JoinKey (P : PairTables) (n x y k : ℕ) : Type 0 where
   pub bound : (k ≡ none) ⊎ (k < n)
-  pub built : WhenBuilt file places lefts rights area n (λ D. JoinOf D n x y k)
+  pub built : WhenBuilt P n (λ D. JoinOf D n x y k)
 
 module _ (Key : ℕ → ℕ → ℕ → Type 0) where
   -- k is the key of a live place whose code is x, the codes after it being S: none where there are none
@@ -62,8 +63,8 @@ pub record CodesReady (n len : ℕ) (work : List ℕ) : Type 0 where
   pub codes : Codes len work n
 
 -- what a key found anew needs: a place, and the next live one or the end
-pub record RenewReady (file places lefts rights area : List ℕ) (n len : ℕ) (work keys heads pool : List ℕ) (count at next : ℕ) : Type 0 where
-  pub tables : JoinsReady file places lefts rights area n
+pub record RenewReady (P : PairTables) (n len : ℕ) (work keys heads pool : List ℕ) (count at next : ℕ) : Type 0 where
+  pub tables : JoinsReady P n
   pub codes-ready : CodesReady n len work
   pub queues : Queues heads pool count
   pub keys-room : length keys ≡ 4096
@@ -72,25 +73,25 @@ pub record RenewReady (file places lefts rights area : List ℕ) (n len : ℕ) (
   pub next-below : next ≤ len
 
 -- one key is found anew, and its place is in the queue of its row
-pub record Renewed (file places lefts rights area : List ℕ) (n len : ℕ) (work keys heads pool : List ℕ) (count at next : ℕ) (keys' heads' pool' : List ℕ) (r : ℕ) : Type 0 where
+pub record Renewed (P : PairTables) (n len : ℕ) (work keys heads pool : List ℕ) (count at next : ℕ) (keys' heads' pool' : List ℕ) (r : ℕ) : Type 0 where
   pub keys-room : length keys' ≡ 4096
   pub last : next ≡ len → getD keys' at 0 ≡ none
-  pub here : next < len → JoinKey file places lefts rights area n (getD work at 0) (getD work next 0) (getD keys' at 0)
+  pub here : next < len → JoinKey P n (getD work at 0) (getD work next 0) (getD keys' at 0)
   pub others : (i : ℕ) → (i ≡ at → ⊥) → getD keys' i 0 ≡ getD keys i 0
   pub longer : Longer heads pool count heads' pool' r
   pub few : r ≤ count + 1
   pub fresh : (getD keys' at 0 ≡ none → ⊥) → Queued pool' (getD heads' (getD keys' at 0) 0) at
 
 -- the codes at the live places below len, and the keys of all places
-pub record Keyed (file places lefts rights area : List ℕ) (n len : ℕ) (words work keys : List ℕ) : Type 0 where
+pub record Keyed (P : PairTables) (n len : ℕ) (words work keys : List ℕ) : Type 0 where
   pub codes-ready : CodesReady n len work
   pub keys-room : length keys ≡ 4096
   pub key : (i : ℕ) → i < 4096
-      → KeyIs (JoinKey file places lefts rights area n) (isSet words i) (getD work i 0) (live (isSet words) work (len - suc i) (suc i)) (getD keys i 0)
+      → KeyIs (JoinKey P n) (isSet words i) (getD work i 0) (live (isSet words) work (len - suc i) (suc i)) (getD keys i 0)
 
 -- and the queues, with room for two entries at each join
-pub record State (file places lefts rights area : List ℕ) (n len : ℕ) (words work keys heads pool : List ℕ) (count : ℕ) : Type 0 where
-  pub keyed : Keyed file places lefts rights area n len words work keys
+pub record State (P : PairTables) (n len : ℕ) (words work keys heads pool : List ℕ) (count : ℕ) : Type 0 where
+  pub keyed : Keyed P n len words work keys
   pub queues : Queues heads pool count
   pub entries : count + 2 * length (live (isSet words) work len 0) ≤ 3 * len + 1
 
@@ -100,13 +101,13 @@ pub record Waiting (keys heads pool : List ℕ) (row : ℕ) : Type 0 where
   pub queued : (i : ℕ) → i < 4096 → (getD keys i 0 ≡ none → ⊥) → Queued pool (getD heads (getD keys i 0) 0) i
 
 -- the keys of codes that are all live
-pub record FirstKeys (file places lefts rights area : List ℕ) (n len : ℕ) (work keys heads pool : List ℕ) (count : ℕ) : Type 0 where
-  pub state : (words : List ℕ) → isSet words ≡ allSet → State file places lefts rights area n len words work keys heads pool count
+pub record FirstKeys (P : PairTables) (n len : ℕ) (work keys heads pool : List ℕ) (count : ℕ) : Type 0 where
+  pub state : (words : List ℕ) → isSet words ≡ allSet → State P n len words work keys heads pool count
   pub waiting : Waiting keys heads pool 0
 
 -- what the keys of codes need: empty queues and no keys
-pub record FillReady (file places lefts rights area : List ℕ) (n len : ℕ) (work keys heads pool : List ℕ) : Type 0 where
-  pub tables : JoinsReady file places lefts rights area n
+pub record FillReady (P : PairTables) (n len : ℕ) (work keys heads pool : List ℕ) : Type 0 where
+  pub tables : JoinsReady P n
   pub codes-ready : CodesReady n len work
   pub queues : Queues heads pool 1
   pub keys-room : length keys ≡ 4096
@@ -132,8 +133,8 @@ pub record Around (bits : ℕ → Bool) (keys : List ℕ) (n len row last at nex
   pub after-is : NextLive bits next len after
 
 -- the code at the place at and the one after it are made one
-pub record Turned (file places lefts rights area : List ℕ) (n len : ℕ) (words work keys heads pool : List ℕ) (count row last at next : ℕ) (words' work' keys' heads' pool' : List ℕ) (r : ℕ) : Type 0 where
-  pub state : State file places lefts rights area n len words' work' keys' heads' pool' r
+pub record Turned (P : PairTables) (n len : ℕ) (words work keys heads pool : List ℕ) (count row last at next : ℕ) (words' work' keys' heads' pool' : List ℕ) (r : ℕ) : Type 0 where
+  pub state : State P n len words' work' keys' heads' pool' r
   pub work-length : length work' ≡ length work
   pub beyond : drop len work' ≡ drop len work
   pub less : suc (length (live (isSet words') work' len 0)) ≡ length (live (isSet words) work len 0)
@@ -143,9 +144,9 @@ pub record Turned (file places lefts rights area : List ℕ) (n len : ℕ) (word
   pub others : (i : ℕ) → (i ≡ at → ⊥) → (i ≡ next → ⊥) → (last < at → i ≡ last → ⊥) → getD keys' i 0 ≡ getD keys i 0
   pub fresh-at : (getD keys' at 0 ≡ none → ⊥) → Queued pool' (getD heads' (getD keys' at 0) 0) at
   pub fresh-last : last < at → (getD keys' last 0 ≡ none → ⊥) → Queued pool' (getD heads' (getD keys' last 0) 0) last
-  pub higher-at : WhenBuilt file places lefts rights area n (λ D. row < getD keys' at 0)
-  pub higher-last : last < at → WhenBuilt file places lefts rights area n (λ D. row < getD keys' last 0)
-  pub same : WhenBuilt file places lefts rights area n (λ D. pass row (listed D row) (live (isSet words') work' len 0) ≡ pass row (listed D row) (live (isSet words) work len 0))
+  pub higher-at : WhenBuilt P n (λ D. row < getD keys' at 0)
+  pub higher-last : last < at → WhenBuilt P n (λ D. row < getD keys' last 0)
+  pub same : WhenBuilt P n (λ D. pass row (listed D row) (live (isSet words') work' len 0) ≡ pass row (listed D row) (live (isSet words) work len 0))
 
 -- the live place before a place has the key row
 pub record Behind (bits : ℕ → Bool) (keys : List ℕ) (row i : ℕ) : Type 0 where
@@ -162,21 +163,21 @@ pub record During (bits : ℕ → Bool) (keys heads pool : List ℕ) (row entry 
   pub due : (i : ℕ) → i < 4096 → getD keys i 0 ≡ row → (i ≡ at) ⊎ (Queued pool entry i ⊎ Behind bits keys row i)
 
 -- joins to row were made from the place at on, where there are some. 4,096 is no place
-pub record Ran (file places lefts rights area : List ℕ) (n len : ℕ) (words work keys heads pool : List ℕ) (count row at : ℕ) (words' work' keys' heads' pool' : List ℕ) (r : ℕ) : Type 0 where
-  pub state : State file places lefts rights area n len words' work' keys' heads' pool' r
+pub record Ran (P : PairTables) (n len : ℕ) (words work keys heads pool : List ℕ) (count row at : ℕ) (words' work' keys' heads' pool' : List ℕ) (r : ℕ) : Type 0 where
+  pub state : State P n len words' work' keys' heads' pool' r
   pub work-length : length work' ≡ length work
   pub beyond : drop len work' ≡ drop len work
   pub least : count ≤ r
-  pub during : WhenBuilt file places lefts rights area n (λ D. (entry : ℕ) → entry < count → During (isSet words) keys heads pool row entry at → During (isSet words') keys' heads' pool' row entry 4096)
-  pub same : WhenBuilt file places lefts rights area n (λ D. pass row (listed D row) (live (isSet words') work' len 0) ≡ pass row (listed D row) (live (isSet words) work len 0))
+  pub during : WhenBuilt P n (λ D. (entry : ℕ) → entry < count → During (isSet words) keys heads pool row entry at → During (isSet words') keys' heads' pool' row entry 4096)
+  pub same : WhenBuilt P n (λ D. pass row (listed D row) (live (isSet words') work' len 0) ≡ pass row (listed D row) (live (isSet words) work len 0))
 
 -- all joins to row were made
-pub record RowJoined (file places lefts rights area : List ℕ) (n len : ℕ) (words work keys heads pool : List ℕ) (row : ℕ) (words' work' keys' heads' pool' : List ℕ) (r : ℕ) : Type 0 where
-  pub state : State file places lefts rights area n len words' work' keys' heads' pool' r
+pub record RowJoined (P : PairTables) (n len : ℕ) (words work keys heads pool : List ℕ) (row : ℕ) (words' work' keys' heads' pool' : List ℕ) (r : ℕ) : Type 0 where
+  pub state : State P n len words' work' keys' heads' pool' r
   pub work-length : length work' ≡ length work
   pub beyond : drop len work' ≡ drop len work
-  pub waiting : WhenBuilt file places lefts rights area n (λ D. Waiting keys heads pool row → Waiting keys' heads' pool' (suc row))
-  pub is : WhenBuilt file places lefts rights area n (λ D. Waiting keys heads pool row → live (isSet words') work' len 0 ≡ pass row (listed D row) (live (isSet words) work len 0))
+  pub waiting : WhenBuilt P n (λ D. Waiting keys heads pool row → Waiting keys' heads' pool' (suc row))
+  pub is : WhenBuilt P n (λ D. Waiting keys heads pool row → live (isSet words') work' len 0 ≡ pass row (listed D row) (live (isSet words) work len 0))
 
 -- the codes after the passes of the rows below p
 abbrev pub passedBelow : Dictionary → ℕ → List ℕ → List ℕ
@@ -184,11 +185,11 @@ passedBelow D zero S = S
 passedBelow D (suc p) S = pass p (listed D p) (passedBelow D p S)
 
 -- the codes at the live places are what the passes of all rows make of those that were there before, the numbers from len on as before
-pub record Merged (file places lefts rights area : List ℕ) (n len : ℕ) (words work words' work' : List ℕ) : Type 0 where
+pub record Merged (P : PairTables) (n len : ℕ) (words work words' work' : List ℕ) : Type 0 where
   pub codes : Codes len work' n
   pub work-length : length work' ≡ length work
   pub beyond : drop len work' ≡ drop len work
-  pub built : WhenBuilt file places lefts rights area n (λ D. live (isSet words') work' len 0 ≡ passedBelow D n (live (isSet words) work len 0))
+  pub built : WhenBuilt P n (λ D. live (isSet words') work' len 0 ≡ passedBelow D n (live (isSet words) work len 0))
 
 -- the codes at the live places stand at the front of a buffer, the rest is as before
 pub record Gathered (words work : List ℕ) (len : ℕ) (out out' : List ℕ) (r : ℕ) : Type 0 where

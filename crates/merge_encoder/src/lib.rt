@@ -10,6 +10,7 @@ ghost use Rattle.merge_encoder.specs.Encoding.{RowsReady, JoinsReady, En
 ghost use Rattle.merge_encoder.specs.Live.{NextLive, LastLive};
 ghost use Rattle.merge_encoder.specs.Queues.{PushReady, Pushed};
 ghost use Rattle.merge_encoder.specs.Steps.{ByteCode, KnownBytes, KnownCode, ByteCodes, RenewReady, Renewed, FillReady, FirstKeys, State, Waiting, Later, Around, Turned, Ran, RowJoined, Merged, Gathered};
+ghost use Rattle.tables.specs.Tables.{pairGiven, pairLent, before, after};
 use bitfield::Bit;
 use bitfield::all_set;
 use bitfield::bit_is_set;
@@ -145,8 +146,10 @@ fn renew(
     at: usize,
     next: usize,
 ) -> usize
-    requires { ⌜ RenewReady (now file) (now places) (now lefts) (now rights) (now area) n len (now work) (now keys) (now heads) (now pool) count at next ⌝ }
-    ensures { λ r. ⌜ Renewed (now (file .entry)) (now (places .entry)) (now (lefts .entry)) (now (rights .entry)) (now (area .entry)) n len (now (work .entry)) (now (keys .entry)) (now (heads .entry)) (now (pool .entry)) count at next (now (keys .exit)) (now (heads .exit)) (now (pool .exit)) r ⌝ }
+    requires { ⌜ RenewReady (pairGiven file places lefts rights area) n len (now work) (now keys) (now heads)
+        (now pool) count at next ⌝ }
+    ensures { λ r. ⌜ Renewed (pairLent file places lefts rights area) n len (before work) (before keys)
+        (before heads) (before pool) count at next (after keys) (after heads) (after pool) r ⌝ }
 {
     if next == len {
         return push(keys, heads, pool, count, at, NONE);
@@ -181,8 +184,10 @@ fn fill_keys(
     heads: &mut [u32; 4096],
     pool: &mut [u32; 12289],
 ) -> usize
-    requires { ⌜ FillReady (now file) (now places) (now lefts) (now rights) (now area) n len (now work) (now keys) (now heads) (now pool) ⌝ }
-    ensures { λ r. ⌜ FirstKeys (now (file .entry)) (now (places .entry)) (now (lefts .entry)) (now (rights .entry)) (now (area .entry)) n len (now (work .entry)) (now (keys .exit)) (now (heads .exit)) (now (pool .exit)) r ⌝ }
+    requires { ⌜ FillReady (pairGiven file places lefts rights area) n len (now work) (now keys) (now heads)
+        (now pool) ⌝ }
+    ensures { λ r. ⌜ FirstKeys (pairLent file places lefts rights area) n len (before work) (after keys)
+        (after heads) (after pool) r ⌝ }
 {
     let mut count = 1;
     let mut next = 1;
@@ -240,9 +245,12 @@ fn join_at(
     next: usize,
     after: usize,
 ) -> usize
-    requires { ⌜ JoinsReady (now file) (now places) (now lefts) (now rights) (now area) n ⌝ }
-    requires { ⌜ State (now file) (now places) (now lefts) (now rights) (now area) n len (now words) (now work) (now keys) (now heads) (now pool) count × Around (isSet (now words)) (now keys) n len row last at next after ⌝ }
-    ensures { λ r. ⌜ Turned (now (file .entry)) (now (places .entry)) (now (lefts .entry)) (now (rights .entry)) (now (area .entry)) n len (now (words .entry)) (now (work .entry)) (now (keys .entry)) (now (heads .entry)) (now (pool .entry)) count row last at next (now (words .exit)) (now (work .exit)) (now (keys .exit)) (now (heads .exit)) (now (pool .exit)) r ⌝ }
+    requires { ⌜ JoinsReady (pairGiven file places lefts rights area) n ⌝ }
+    requires { ⌜ State (pairGiven file places lefts rights area) n len (now words) (now work) (now keys) (now heads)
+        (now pool) count × Around (isSet (now words)) (now keys) n len row last at next after ⌝ }
+    ensures { λ r. ⌜ Turned (pairLent file places lefts rights area) n len (before words) (before work)
+        (before keys) (before heads) (before pool) count row last at next (now (words .exit)) (now (work .exit))
+        (now (keys .exit)) (now (heads .exit)) (now (pool .exit)) r ⌝ }
 {
     work[at] = row;
     clear_bit(words, next);
@@ -302,9 +310,12 @@ fn join_run(
     row: u32,
     first: usize,
 ) -> usize
-    requires { ⌜ JoinsReady (now file) (now places) (now lefts) (now rights) (now area) n ⌝ }
-    requires { ⌜ State (now file) (now places) (now lefts) (now rights) (now area) n len (now words) (now work) (now keys) (now heads) (now pool) start × ((row < n) × (first < 4096)) ⌝ }
-    ensures { λ r. ⌜ Ran (now (file .entry)) (now (places .entry)) (now (lefts .entry)) (now (rights .entry)) (now (area .entry)) n len (now (words .entry)) (now (work .entry)) (now (keys .entry)) (now (heads .entry)) (now (pool .entry)) start row first (now (words .exit)) (now (work .exit)) (now (keys .exit)) (now (heads .exit)) (now (pool .exit)) r ⌝ }
+    requires { ⌜ JoinsReady (pairGiven file places lefts rights area) n ⌝ }
+    requires { ⌜ State (pairGiven file places lefts rights area) n len (now words) (now work) (now keys) (now heads)
+        (now pool) start × ((row < n) × (first < 4096)) ⌝ }
+    ensures { λ r. ⌜ Ran (pairLent file places lefts rights area) n len (before words) (before work) (before keys)
+        (before heads) (before pool) start row first (after words) (after work) (after keys) (after heads)
+        (after pool) r ⌝ }
 {
     let mut count = start;
     let mut at = first;
@@ -360,9 +371,12 @@ fn join_queue(
     start: usize,
     row: u32,
 ) -> usize
-    requires { ⌜ JoinsReady (now file) (now places) (now lefts) (now rights) (now area) n ⌝ }
-    requires { ⌜ State (now file) (now places) (now lefts) (now rights) (now area) n len (now words) (now work) (now keys) (now heads) (now pool) start × (row < n) ⌝ }
-    ensures { λ r. ⌜ RowJoined (now (file .entry)) (now (places .entry)) (now (lefts .entry)) (now (rights .entry)) (now (area .entry)) n len (now (words .entry)) (now (work .entry)) (now (keys .entry)) (now (heads .entry)) (now (pool .entry)) row (now (words .exit)) (now (work .exit)) (now (keys .exit)) (now (heads .exit)) (now (pool .exit)) r ⌝ }
+    requires { ⌜ JoinsReady (pairGiven file places lefts rights area) n ⌝ }
+    requires { ⌜ State (pairGiven file places lefts rights area) n len (now words) (now work) (now keys) (now heads)
+        (now pool) start × (row < n) ⌝ }
+    ensures { λ r. ⌜ RowJoined (pairLent file places lefts rights area) n len (before words) (before work)
+        (before keys) (before heads) (before pool) row (after words) (after work) (after keys) (after heads)
+        (after pool) r ⌝ }
 {
     let mut count = start;
     let queue = wide(row);
@@ -407,9 +421,11 @@ fn merge(
     pool: &mut [u32; 12289],
     start: usize,
 )
-    requires { ⌜ JoinsReady (now file) (now places) (now lefts) (now rights) (now area) n ⌝ }
-    requires { ⌜ State (now file) (now places) (now lefts) (now rights) (now area) n len (now words) (now work) (now keys) (now heads) (now pool) start × Waiting (now keys) (now heads) (now pool) 0 ⌝ }
-    ensures { λ r. ⌜ Merged (now (file .entry)) (now (places .entry)) (now (lefts .entry)) (now (rights .entry)) (now (area .entry)) n len (now (words .entry)) (now (work .entry)) (now (words .exit)) (now (work .exit)) ⌝ }
+    requires { ⌜ JoinsReady (pairGiven file places lefts rights area) n ⌝ }
+    requires { ⌜ State (pairGiven file places lefts rights area) n len (now words) (now work) (now keys) (now heads)
+        (now pool) start × Waiting (now keys) (now heads) (now pool) 0 ⌝ }
+    ensures { λ r. ⌜ Merged (pairLent file places lefts rights area) n len (before words) (before work)
+        (after words) (after work) ⌝ }
 {
     let mut count = start;
     let mut row = 0;
@@ -465,8 +481,9 @@ pub fn encode_via_bitfield_core(
     out: &mut [u32],
     work: &mut [u32],
 ) -> usize
-    requires { ⌜ EncodeReady (now file) (now places) (now lefts) (now rights) (now area) n (now text) (now out) (now work) ⌝ }
-    ensures { λ r. ⌜ Encoded (now (file .entry)) (now (places .entry)) (now (lefts .entry)) (now (rights .entry)) (now (area .entry)) n (now (text .entry)) (now (out .entry)) (now (out .exit)) (now (work .entry)) (now (work .exit)) r ⌝ }
+    requires { ⌜ EncodeReady (pairGiven file places lefts rights area) n (now text) (now out) (now work) ⌝ }
+    ensures { λ r. ⌜ Encoded (pairLent file places lefts rights area) n (before text) (before out) (after out)
+        (before work) (after work) r ⌝ }
 {
     let len = text.len();
     let mut words = all_set();

@@ -9,7 +9,7 @@ use borrow.Author.Tests.{lt-ltb, le-ltb}
 use Rattle.causes.specs.declared.Cause.the-variants.{OutOfForm, UnknownCode}
 use Rattle.phrase_file.specs.Form.{rows}
 use Rattle.phrase_file.proofs.Checks.{accepted}
-use Rattle.tables.specs.Tables.{Tables}
+use Rattle.tables.specs.Tables.{Tables, withoutPrefixes}
 use Rattle.tables.specs.declared.Form.{Form}
 use Rattle.tables.specs.declared.Form.the-variants as Form
 use Rattle.tables.specs.InForm.{formOf}
@@ -24,7 +24,7 @@ use Rattle.pair_check.specs.declared.PairAnswer.the-variants.{Passes, Re
 use Rattle.pair_check.specs.Pair.{pairAnswer, PairChecked}
 
 module _ (T : Tables) (token1 token2 : ℕ) where
-  open Tables T using (file, places as placeTable, lefts, rights, area)
+  open Tables T using (file)
 
   -- the count of rows is the same for everybody
   one-count : (n : ℕ) → Built T n → length (rows file) ≡ n
@@ -52,12 +52,12 @@ module _ (T : Tables) (token1 token2 : ℕ) where
     unfolding pairAnswer
     pair-second h k = refused (Refused (UnknownCode 1)) (rw (e, lt-ltb token1 n h, le-ltb token2 n k))
 
-    pub pair-ready : token1 < n → token2 < n → PairReady file placeTable lefts rights area n n token1 token2
+    pub pair-ready : token1 < n → token2 < n → PairReady (withoutPrefixes T) n n token1 token2
     pair-ready h k =
         let R = ready T n e in
         record { places-ready = R .places-ready; parts-ready = R .parts-ready; area-room = R .area-room; few = omega arith; left-below = h; right-below = k }
 
-    pub pair-made : (b : Bool) → token1 < n → token2 < n → PairIs file placeTable lefts rights area n n token1 token2 b
+    pub pair-made : (b : Bool) → token1 < n → token2 < n → PairIs (withoutPrefixes T) n n token1 token2 b
         → PairChecked T token1 token2 (Passes b)
     unfolding pairAnswer
     pair-made b h k p = record {
@@ -66,6 +66,6 @@ module _ (T : Tables) (token1 token2 : ℕ) where
       built = λ m B _ _.
           let R = ready T n e in
           let q : n ≡ m = R .places-ready .count ∙ one-count m B in
-          pair-is T m B token1 token2 b (subst (λ (x : ℕ). PairIs file placeTable lefts rights area x x token1 token2 b) q p)
+          pair-is T m B token1 token2 b (subst (λ (x : ℕ). PairIs (withoutPrefixes T) x x token1 token2 b) q p)
           ∙ ap (λ (x : ℕ). passes (dictionaryOf file) x token1 token2) (count-is T m B);
     }

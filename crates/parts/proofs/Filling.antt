@@ -20,6 +20,7 @@ use Rattle.parts.specs.Parts.{isSome, hasParts, firstWithout, partsIn, R
 use Rattle.parts.specs.Marking.{AreaKept, WriteFit, PartsWritten, SeamFit, SeamWritten}
 use Rattle.parts.proofs.Trying.{left-low, left-shorter}
 use Rattle.parts.proofs.Marking.{still-found, kept-all, kept-through, seam-stays}
+use Rattle.tables.specs.Tables.{pairTables}
 
 -- other marks of pairs in the search area change nothing of what is there to start with, and of what is left in the tables
 module _ (file lefts rights area area₁ : List ℕ) (n : ℕ) (k : AreaKept area area₁) where
@@ -71,7 +72,7 @@ module _ (file places lefts₀ rights₀ prefixes area₀ : List ℕ) (n : ℕ) 
   }
 
   module _ (lefts rights area : List ℕ) (w : ℕ) (F : Filling file lefts₀ rights₀ area₀ lefts rights area n w) where
-    pub filling-looks : w < n → Looking file places lefts rights area n w
+    pub filling-looks : w < n → Looking (pairTables file places lefts rights area) n w
     filling-looks h = record { rows-found = still-found file places area₀ area n (T .rows-found) (F .area-kept); known = F .known; row-below = h }
 
     -- the parts of row w, and whether it has any

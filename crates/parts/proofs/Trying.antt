@@ -21,6 +21,7 @@ use Rattle.phrase_file.specs.Form.{rows}
 use Rattle.placed_rows.specs.Rows.{none, row}
 use Rattle.placed_rows.specs.Texts.{Begins}
 use Rattle.placed_rows.proofs.Beginning.{begins-length, through, whole, beyond}
+use Rattle.tables.specs.Tables.{PairTables, pairTables}
 use Rattle.tables.specs.Ready.{PartsReady}
 use Rattle.search_area.specs.Answers.{Found}
 use Rattle.token_pair.specs.Pair.{Tells, PairReady, PairIs}
@@ -39,7 +40,9 @@ parts-longer rs w h = rw (lt-ltb 1 (length (bytesOf rs w)) h, partsOf)
 parts-same : (p q : Parts) → some p ≡ some q → (p .left ≡ q .left) × (p .right ≡ q .right)
 parts-same p q e = (ap (partOr (λ x. x .left) 0) e, ap (partOr (λ x. x .right) 0) e)
 
-module _ (file places lefts rights area : List ℕ) (n w : ℕ) (L : Looking file places lefts rights area n w) where
+module _ (P : PairTables) (n w : ℕ) (L : Looking P n w) where
+  open PairTables P using (file, places, lefts, rights, area)
+
   abbrev known : List (Option Parts)
   known = partsBelow (rows file) w
 
@@ -131,7 +134,7 @@ module _ (file places lefts rights area : List ℕ) (n w : ℕ) (L : Looking fil
 
       -- both are below row w
       module _ (cb : c < w) (rb : r < w) where
-        pub pair-ready : PairReady file places lefts rights area n w c r
+        pub pair-ready : PairReady P n w c r
         pair-ready = record {
           places-ready = L .rows-found .places-ready;
           parts-ready = parts-ready;
@@ -144,10 +147,10 @@ module _ (file places lefts rights area : List ℕ) (n w : ℕ) (L : Looking fil
         r-below : r < n
         r-below = let k = L .row-below in omega arith
 
-        checked : (b : Bool) → PairIs file places lefts rights area n w c r b → arePartsOf (rows file) known w c ≡ b
+        checked : (b : Bool) → PairIs P n w c r b → arePartsOf (rows file) known w c ≡ b
         checked b p = rw (lt-ltb c w cb, rest-is r-below, lt-ltb r w rb) (sym (p .passes-is D tells (L .rows-found .distinct) (L .rows-found .finds) (L .known .pairs-marked)))
 
-        pub fails-check : (b : Bool) → PairIs file places lefts rights area n w c r b → b ≡ false → Fails file w c none
+        pub fails-check : (b : Bool) → PairIs P n w c r b → b ≡ false → Fails file w c none
         fails-check b p e = record { is-none = refl; not-parts = checked b p ∙ e }
 
         join : row file places n c ++ row file places n r ≡ row file places n w
@@ -157,7 +160,7 @@ module _ (file places lefts rights area : List ℕ) (n w : ℕ) (L : Looking fil
             (i .1 ∙ ap₂ drop (ap length (sym (read c (B .row-below)))) (sym (read w (L .row-below))) ∙ beyond (row file places n c) (row file places n w) (B .begins))
             ∙ sym (B .begins .split)
 
-        pub passes-check : (b : Bool) → PairIs file places lefts rights area n w c r b → b ≡ true → Passes file w c r
+        pub passes-check : (b : Bool) → PairIs P n w c r b → b ≡ true → Passes file w c r
         passes-check b p e = record {
           rest = sym (rest-is r-below);
           are-parts = checked b p ∙ e;
@@ -177,7 +180,7 @@ pub record Tried (file places : List ℕ) (n w c : ℕ) : Type 0 where
 abbrev pub Trying : List ℕ → List ℕ → ℕ → ℕ → ℕ → Type 0
 Trying file places n w c = ((c ≡ none) × (partsIn (rows file) w ≡ Option.none)) ⊎ Tried file places n w c
 
-module _ (file places lefts rights prefixTable area : List ℕ) (n w : ℕ) (L : Looking file places lefts rights area n w) where
+module _ (file places lefts rights prefixTable area : List ℕ) (n w : ℕ) (L : Looking (pairTables file places lefts rights area) n w) where
   -- row w, its length as it is read
   module _ (at size : ℕ) (z : at ≡ w) (f : size ≡ length (row file places n at)) where
     sized : size ≡ length (bytesOf (rows file) w)

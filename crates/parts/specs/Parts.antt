@@ -13,6 +13,7 @@ use Rattle.phrase_file.specs.Checks.{firstNot}
 use Rattle.placed_rows.specs.Rows.{none, row}
 use Rattle.placed_rows.specs.Texts.{Begins}
 use Rattle.placed_rows.specs.Longest.{Below, Prefix}
+use Rattle.tables.specs.Tables.{PairTables}
 use Rattle.tables.specs.Ready.{PlacesReady}
 use Rattle.search_area.specs.Area.{Finds}
 use Rattle.token_pair.specs.Pair.{Distinct, PairsMarked, SeamsMarked}
@@ -66,9 +67,9 @@ pub record PartsKnown (file lefts rights area : List ℕ) (w : ℕ) : Type 0 whe
   pub seams-marked : SeamsMarked file lefts area w
 
 -- row w is looked at, the parts of the rows before it being known
-pub record Looking (file places lefts rights area : List ℕ) (n w : ℕ) : Type 0 where
-  pub rows-found : RowsFound file places area n
-  pub known : PartsKnown file lefts rights area w
+pub record Looking (P : PairTables) (n w : ℕ) : Type 0 where
+  pub rows-found : RowsFound (P .file) (P .places) (P .area) n
+  pub known : PartsKnown (P .file) (P .lefts) (P .rights) (P .area) w
   pub row-below : w < n
 
 -- row c begins row w

@@ -4,6 +4,7 @@ ghost use Prim.Native.Nat.{_≤_, _<_};
 ghost use lib.ListN.{length};
 ghost use Rattle.parts.specs.Parts.{Looking, Beginner, RightPart, PrefixesFound, PartsFound, PartsFit, PartsFilled};
 ghost use Rattle.parts.specs.Marking.{PairsEmptied, Named, WriteFit, PartsWritten, SeamFit, SeamWritten};
+ghost use Rattle.tables.specs.Tables.{pairGiven};
 use placed_rows::NONE;
 use placed_rows::wide;
 use token_pair::HINTS;
@@ -30,7 +31,7 @@ fn right_part(
     w: u32,
     left: u32,
 ) -> u32
-    requires { ⌜ Looking (now file) (now places) (now lefts) (now rights) (now area) n w ⌝ }
+    requires { ⌜ Looking (pairGiven file places lefts rights area) n w ⌝ }
     requires { ⌜ Beginner (now file) (now places) n w left ⌝ }
     ensures { λ r. ⌜ RightPart (now (file .entry)) w left r ⌝ }
 {
@@ -60,7 +61,7 @@ fn find_parts(
     n: usize,
     w: u32,
 ) -> TokenParts
-    requires { ⌜ Looking (now file) (now places) (now lefts) (now rights) (now area) n w ⌝ }
+    requires { ⌜ Looking (pairGiven file places lefts rights area) n w ⌝ }
     requires { ⌜ PrefixesFound (now file) (now places) (now prefixes) n ⌝ }
     ensures { λ r. ⌜ PartsFound (now (file .entry)) w (r .left) (r .right) ⌝ }
 {

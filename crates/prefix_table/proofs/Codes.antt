@@ -13,15 +13,17 @@ use Rattle.built.specs.Built.{dictionaryOf, Built}
 use Rattle.prefix_table.specs.LastCodes.{LastCodesTo, PrefixesReady, PrefixesAre}
 use Rattle.prefix_table.specs.Walk.{walked, WalkReady, WriteReady, TableReady, TableCodes}
 use Rattle.prefix_table.proofs.Walking.{walked-few, walked-rows, walked-codes}
-use Rattle.tables.specs.Tables.{tables}
+use Rattle.tables.specs.Tables.{PairTables, withPrefixes}
 
-module _ (file places lefts rights area : List ℕ) (n : ℕ) (text out work : List ℕ) (R : TableReady file places lefts rights area n text out work) where
-  pub prefixes-ready : PrefixesReady file places lefts rights area n text work
+module _ (P : PairTables) (n : ℕ) (text out work : List ℕ) (R : TableReady P n text out work) where
+  open PairTables P using (file, places)
+
+  pub prefixes-ready : PrefixesReady P n text work
   prefixes-ready = record { in-form = R .in-form; room = R .work-room }
 
-  module _ (work' : List ℕ) (P : PrefixesAre file places lefts rights area n text work work') where
+  module _ (work' : List ℕ) (Q : PrefixesAre P n text work work') where
     pub walk-ready : WalkReady file places n work' (length text)
-    walk-ready = record { places-ready = R .in-form .places-ready; before = record { room = omega (arith, R .work-room, P .same-length); rows = P .rows } }
+    walk-ready = record { places-ready = R .in-form .places-ready; before = record { room = omega (arith, R .work-room, Q .same-length); rows = Q .rows } }
 
     module _ (count : ℕ) (C : count ≡ length (walked file work' (length text))) where
       few : count ≤ length text
@@ -30,7 +32,7 @@ module _ (file places lefts rights area : List ℕ) (n : ℕ) (text out work : L
       pub write-ready : WriteReady file places n work' (length text) count out
       write-ready = record { walk = walk-ready; count-is = C; room = omega (arith, few, R .out-room) }
 
-      pub table-codes : Octets text → (out' : List ℕ) → out' ≡ walked file work' (length text) ++ drop count out → TableCodes file places lefts rights area n text out work out' work' count
+      pub table-codes : Octets text → (out' : List ℕ) → out' ≡ walked file work' (length text) ++ drop count out → TableCodes P n text out work out' work' count
       table-codes o out' e = record {
         few = few;
         rows = λ j h.
@@ -38,20 +40,20 @@ module _ (file places lefts rights area : List ℕ) (n : ℕ) (text out work : L
             rw (e, List·getD-append codes (drop count out) 0 j l) (walked-rows file places n work' (length text) walk-ready j l);
         out-length = ap length e ∙ simp (length-append, length-drop) (omega (arith, few, R .out-room));
         out-beyond = ap (drop count) e ∙ drop-at codes (drop count out) count (sym C);
-        work-length = P .same-length;
-        work-beyond = P .beyond;
+        work-length = Q .same-length;
+        work-beyond = Q .beyond;
         built = λ prefixes B. let w = merged prefixes B in (C ∙ ap length w, e ∙ ap (λ (L : List ℕ). L ++ drop count out) w);
       }
         where
           codes : List ℕ
           codes = walked file work' (length text)
 
-          last-codes : (prefixes : List ℕ) → Built (tables file places lefts rights prefixes area) n → LastCodesTo file text work' (length text)
+          last-codes : (prefixes : List ℕ) → Built (withPrefixes P prefixes) n → LastCodesTo file text work' (length text)
           last-codes prefixes B j h =
               let D = dictionaryOf file in
-              ap (λ (L : List ℕ). getD L j 0) (P .built prefixes B)
+              ap (λ (L : List ℕ). getD L j 0) (Q .built prefixes B)
               ∙ List·getD-append (lastCodes D text) (drop (length text) work) 0 j (omega (arith, length-lastCodes D text))
               ∙ getD-lastCodes D text j 0 h
 
-          merged : (prefixes : List ℕ) → Built (tables file places lefts rights prefixes area) n → codes ≡ encode (dictionaryOf file) text
-          merged prefixes B = walked-codes (tables file places lefts rights prefixes area) n text work' B o (walk-ready .before .room) (last-codes prefixes B)
+          merged : (prefixes : List ℕ) → Built (withPrefixes P prefixes) n → codes ≡ encode (dictionaryOf file) text
+          merged prefixes B = walked-codes (withPrefixes P prefixes) n text work' B o (walk-ready .before .room) (last-codes prefixes B)

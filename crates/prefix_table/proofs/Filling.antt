@@ -16,19 +16,21 @@ use Rattle.built.specs.Built.{dictionaryOf, Built}
 use Rattle.end_code.specs.Tables.{RowsTo}
 use Rattle.end_code.specs.Codes.{CodeReady, CodeIs}
 use Rattle.prefix_table.specs.LastCodes.{LastCodesTo, PrefixesReady, PrefixesAre}
-use Rattle.tables.specs.Tables.{tables}
+use Rattle.tables.specs.Tables.{PairTables, withPrefixes}
 
-module _ (file places lefts rights area : List ℕ) (n : ℕ) (text table₀ : List ℕ) where
+module _ (P : PairTables) (n : ℕ) (text table₀ : List ℕ) where
+  open PairTables P using (file)
+
   -- the first i entries are written
   pub record Filling (i : ℕ) (table : List ℕ) : Type 0 where
-    pub ready : PrefixesReady file places lefts rights area n text table₀
+    pub ready : PrefixesReady P n text table₀
     pub within : i ≤ length text
     pub same-length : length table ≡ length table₀
     pub beyond : drop i table ≡ drop i table₀
     pub rows : RowsTo n table i
-    pub built : (prefixes : List ℕ) → Built (tables file places lefts rights prefixes area) n → LastCodesTo file text table i
+    pub built : (prefixes : List ℕ) → Built (withPrefixes P prefixes) n → LastCodesTo file text table i
 
-  pub filling-start : PrefixesReady file places lefts rights area n text table₀ → Filling 0 table₀
+  pub filling-start : PrefixesReady P n text table₀ → Filling 0 table₀
   filling-start R = record {
     ready = R;
     within = omega arith;
@@ -43,7 +45,7 @@ module _ (file places lefts rights area : List ℕ) (n : ℕ) (text table₀ : L
     room = omega (arith, F .same-length, F .ready .room)
 
     -- all entries are written
-    pub filling-end : length text ≤ i → PrefixesAre file places lefts rights area n text table₀ table
+    pub filling-end : length text ≤ i → PrefixesAre P n text table₀ table
     filling-end h =
         let e : i ≡ length text = omega (arith, F .within) in
         record {
@@ -61,17 +63,17 @@ module _ (file places lefts rights area : List ℕ) (n : ℕ) (text table₀ : L
         }
 
     module _ (h : i < length text) where
-      pub filling-ready : CodeReady file places lefts rights area n text i table
+      pub filling-ready : CodeReady P n text i table
       filling-ready = record {
         in-form = F .ready .in-form;
         inside = h;
         before = record { room = omega (arith, room); rows = F .rows };
       }
 
-      module _ (r : ℕ) (C : CodeIs file places lefts rights area true n text i table r) where
+      module _ (r : ℕ) (C : CodeIs P true n text i table r) where
         -- entry i, and those before it as they were
-        at-last : (P : ℕ → ℕ → Type 0) → ((j : ℕ) → j < i → P j (getD table j 0)) → P i r → (j : ℕ) → j < i + 1 → P j (getD (set table i r) j 0)
-        at-last P below here j l = ⊎-elim
+        at-last : (Q : ℕ → ℕ → Type 0) → ((j : ℕ) → j < i → Q j (getD table j 0)) → Q i r → (j : ℕ) → j < i + 1 → Q j (getD (set table i r) j 0)
+        at-last Q below here j l = ⊎-elim
             (λ e. let z : j ≡ i = omega arith in rw (z, getD-set-same table i r 0 (omega (arith, room))) here)
             (λ m. rw (getD-set-other table i j r 0 (λ z. absurd (omega arith))) (below j (omega arith)))
             (eq-or-lt-of-le l)

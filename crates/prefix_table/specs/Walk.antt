@@ -5,7 +5,7 @@ use Prim.Native.Nat.{ℕ, _≤_}
 use lib.ListN.{length, drop}
 use Rattle.theory.specs.Merge.{encode}
 use Rattle.theory.specs.Table.{walkBack}
-use Rattle.tables.specs.Tables.{tables}
+use Rattle.tables.specs.Tables.{PairTables, withPrefixes}
 use Rattle.tables.specs.Ready.{PlacesReady}
 use Rattle.built.specs.Built.{dictionaryOf, Built}
 use Rattle.end_code.specs.Tables.{RowsTo, FrontRows, PartsInForm}
@@ -26,19 +26,19 @@ pub record WriteReady (file places : List ℕ) (n : ℕ) (table : List ℕ) (m c
   pub room : count ≤ length out
 
 -- what the codes of a text by the table need: output and work buffers with one number per byte
-pub record TableReady (file places lefts rights area : List ℕ) (n : ℕ) (text out work : List ℕ) : Type 0 where
-  pub in-form : PartsInForm file places lefts rights area n
+pub record TableReady (P : PairTables) (n : ℕ) (text out work : List ℕ) : Type 0 where
+  pub in-form : PartsInForm P n
   pub out-room : length text ≤ length out
   pub work-room : length text ≤ length work
 
 -- `encode_via_table`: r codes at the front of the output, those of the merge procedure; the rest of it as before. What is left in the first
 -- entries of the work buffer is free
-pub record TableCodes (file places lefts rights area : List ℕ) (n : ℕ) (text out work out' work' : List ℕ) (r : ℕ) : Type 0 where
+pub record TableCodes (P : PairTables) (n : ℕ) (text out work out' work' : List ℕ) (r : ℕ) : Type 0 where
   pub few : r ≤ length text
   pub rows : RowsTo n out' r
   pub out-length : length out' ≡ length out
   pub out-beyond : drop r out' ≡ drop r out
   pub work-length : length work' ≡ length work
   pub work-beyond : drop (length text) work' ≡ drop (length text) work
-  pub built : (prefixes : List ℕ) → Built (tables file places lefts rights prefixes area) n
-      → (r ≡ length (encode (dictionaryOf file) text)) × (out' ≡ encode (dictionaryOf file) text ++ drop r out)
+  pub built : (prefixes : List ℕ) → Built (withPrefixes P prefixes) n
+      → (r ≡ length (encode (dictionaryOf (P .file)) text)) × (out' ≡ encode (dictionaryOf (P .file)) text ++ drop r out)

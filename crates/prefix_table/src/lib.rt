@@ -7,6 +7,7 @@ ghost use Rattle.built.specs.Built.{dictionaryOf};
 ghost use Rattle.end_code.specs.Tables.{RowReady};
 ghost use Rattle.prefix_table.specs.LastCodes.{PrefixesReady, PrefixesAre};
 ghost use Rattle.prefix_table.specs.Walk.{walked, WalkReady, WriteReady, TableReady, TableCodes};
+ghost use Rattle.tables.specs.Tables.{pairGiven, pairLent, before, after};
 
 // The number of bytes of a row.
 fn token_len(file: &[u8], places: &[u32], n: usize, code: u32) -> usize
@@ -27,8 +28,9 @@ pub fn encode_all_prefixes(
     text: &[u8],
     table: &mut [u32],
 )
-    requires { ⌜ PrefixesReady (now file) (now places) (now lefts) (now rights) (now area) n (now text) (now table) ⌝ }
-    ensures { λ r. ⌜ PrefixesAre (now (file .entry)) (now (places .entry)) (now (lefts .entry)) (now (rights .entry)) (now (area .entry)) n (now (text .entry)) (now (table .entry)) (now (table .exit)) ⌝ }
+    requires { ⌜ PrefixesReady (pairGiven file places lefts rights area) n (now text) (now table) ⌝ }
+    ensures { λ r. ⌜ PrefixesAre (pairLent file places lefts rights area) n (before text) (before table)
+        (after table) ⌝ }
 {
     let mut i = 0;
     while i < text.len() {
@@ -110,8 +112,9 @@ pub fn encode_via_table_core(
     out: &mut [u32],
     work: &mut [u32],
 ) -> usize
-    requires { ⌜ TableReady (now file) (now places) (now lefts) (now rights) (now area) n (now text) (now out) (now work) ⌝ }
-    ensures { λ r. ⌜ TableCodes (now (file .entry)) (now (places .entry)) (now (lefts .entry)) (now (rights .entry)) (now (area .entry)) n (now (text .entry)) (now (out .entry)) (now (work .entry)) (now (out .exit)) (now (work .exit)) r ⌝ }
+    requires { ⌜ TableReady (pairGiven file places lefts rights area) n (now text) (now out) (now work) ⌝ }
+    ensures { λ r. ⌜ TableCodes (pairLent file places lefts rights area) n (before text) (before out) (before work)
+        (after out) (after work) r ⌝ }
 {
     let m = text.len();
     encode_all_prefixes(file, places, lefts, rights, area, n, text, work);

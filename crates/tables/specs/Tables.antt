@@ -24,6 +24,30 @@ tables file places lefts rights prefixes area = record {
   area = area;
 }
 
+-- what the pair check and the searches for joins read of them: all but the prefixes
+pub record PairTables : Type 0 where
+  pub file : List ℕ
+  pub places : List ℕ
+  pub lefts : List ℕ
+  pub rights : List ℕ
+  pub area : List ℕ
+
+-- those of five lists
+abbrev pub pairTables : (file places lefts rights area : List ℕ) → PairTables
+pairTables file places lefts rights area = record {
+  file = file;
+  places = places;
+  lefts = lefts;
+  rights = rights;
+  area = area;
+}
+
+abbrev pub withoutPrefixes : Tables → PairTables
+withoutPrefixes T = pairTables (T .file) (T .places) (T .lefts) (T .rights) (T .area)
+
+abbrev pub withPrefixes : PairTables → List ℕ → Tables
+withPrefixes P prefixes = tables (P .file) (P .places) (P .lefts) (P .rights) prefixes (P .area)
+
 -- a slice, as a `requires` names it
 abbrev pub Slice : Type 0 → Type 0
 Slice A = RefT (List A)
@@ -54,3 +78,11 @@ lent file places lefts rights prefixes area =
 abbrev pub left : (file places lefts rights prefixes area : Lent ℕ) → Tables
 left file places lefts rights prefixes area =
     given (file .entry) (places .exit) (lefts .exit) (rights .exit) (prefixes .exit) (area .exit)
+
+-- the same for the pair tables
+abbrev pub pairGiven : (file places lefts rights area : Slice ℕ) → PairTables
+pairGiven file places lefts rights area = pairTables (now file) (now places) (now lefts) (now rights) (now area)
+
+abbrev pub pairLent : (file places lefts rights area : Lent ℕ) → PairTables
+pairLent file places lefts rights area =
+    pairGiven (file .entry) (places .entry) (lefts .entry) (rights .entry) (area .entry)

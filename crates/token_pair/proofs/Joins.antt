@@ -21,6 +21,7 @@ use Rattle.search_area.specs.Answers.{Found, RowIs}
 use Rattle.marks.specs.Marks.{marked}
 use Rattle.token_pair.specs.Pair.{Distinct, Tells, pairKey, PairsMarked, rowBelow, listedIn, PairReady, JoinIs, IsJoined}
 use Rattle.token_pair.proofs.Listing.{Facts, listed-facts, not-listed}
+use Rattle.tables.specs.Tables.{PairTables}
 
 -- which rows are longer than a byte
 module _ (file lefts rights : List ℕ) (q : ℕ) (D : Dictionary) (T : Tells D file lefts rights q) (c : ℕ) (h : c < q) where
@@ -33,8 +34,10 @@ module _ (file lefts rights : List ℕ) (q : ℕ) (D : Dictionary) (T : Tells D 
   pub longer : D .long c ≡ true → 1 < length (getD (rows file) c [])
   longer e = ltb-true 1 (length (getD (rows file) c [])) (sym (T .long c h) ∙ e)
 
-module _ (file places lefts rights area : List ℕ) (n q x y : ℕ) (R : PairReady file places lefts rights area n q x y)
-    (D : Dictionary) (T : Tells D file lefts rights q) where
+module _ (P : PairTables) (n q x y : ℕ) (R : PairReady P n q x y)
+    (D : Dictionary) (T : Tells D (P .file) (P .lefts) (P .rights) q) where
+  open PairTables P using (file, places, lefts, rights, area)
+
   row-is : (c : ℕ) → c < q → row file places n c ≡ D .bytes c
   row-is c h = let f = R .few in R .places-ready .rows-are c (omega arith) ∙ sym (T .bytes c h)
 
@@ -100,67 +103,69 @@ module _ (file places lefts rights area : List ℕ) (n q x y : ℕ) (R : PairRea
         go : Dec (w ≡ none) → row file places n v ≡ row file places n x ++ row file places n y → v ≡ w
         go (yes z) b = let g = R .few in absurd (joined .all z v (omega arith) b)
         go (no z) b =
-            let P = R .places-ready in
+            let Q = R .places-ready in
             let g = R .few in
-            let c = P .count in
+            let c = Q .count in
             let i = joined .is z in
-            distinct v w (omega arith) (omega (arith, i .0)) (sym (P .rows-are v (omega arith)) ∙ b ∙ sym (i .1) ∙ P .rows-are w (i .0))
+            distinct v w (omega arith) (omega (arith, i .0)) (sym (Q .rows-are v (omega arith)) ∙ b ∙ sym (i .1) ∙ Q .rows-are w (i .0))
 
     unlisted-join : listedIn lefts rights w m x y ≡ false → listedBelow D m x y ≡ false
     unlisted-join e = listed-none D m x y (λ v h f.
         let i = one-join v h f in
         not-listed lefts rights w m x y e (subst (λ (z : ℕ). Facts lefts rights z m x y) i (listed-facts-are v m h hm f)))
 
-module _ (file places lefts rights area : List ℕ) (n q m x y : ℕ) (hm : m ≤ q) where
+module _ (P : PairTables) (n q m x y : ℕ) (hm : m ≤ q) where
+  open PairTables P using (file, places, lefts, rights, area)
+
   -- a row below m that has them as its parts
-  pub joins-listed : (w : ℕ) (b : Bool) → b ≡ listedIn lefts rights w m x y → b ≡ true → JoinIs file places lefts rights area n q m x y w
+  pub joins-listed : (w : ℕ) (b : Bool) → b ≡ listedIn lefts rights w m x y → b ≡ true → JoinIs P n q m x y w
   joins-listed w b e t =
       let f = listed-facts lefts rights w m x y (sym e ∙ t) in
       record {
         bound = inr (f .below);
         nothing = λ z R D T d F M. absurd (let c = R .places-ready .placed .few in let k = R .few in let l = f .below in omega arith);
-        is = λ _ R D T d F. facts-listed file places lefts rights area n q x y R D T w m hm f;
+        is = λ _ R D T d F. facts-listed P n q x y R D T w m hm f;
       }
 
   -- one below q, which is below m or not
-  pub joins-hinted : (w : ℕ) (b : Bool) → b ≡ listedIn lefts rights w q x y → b ≡ true → JoinIs file places lefts rights area n q m x y (rowBelow w m)
+  pub joins-hinted : (w : ℕ) (b : Bool) → b ≡ listedIn lefts rights w q x y → b ≡ true → JoinIs P n q m x y (rowBelow w m)
   unfolding rowBelow
   joins-hinted w b e t = go (decLt w m)
     where
       f : Facts lefts rights w q x y
       f = listed-facts lefts rights w q x y (sym e ∙ t)
 
-      go : Dec (w < m) → JoinIs file places lefts rights area n q m x y (rowBelow w m)
+      go : Dec (w < m) → JoinIs P n q m x y (rowBelow w m)
       go (yes h) = rw (lt-ltb w m h, rowBelow) (record {
         bound = inr h;
         nothing = λ z R D T d F M. absurd (let c = R .places-ready .placed .few in let k = R .few in omega arith);
-        is = λ _ R D T d F. facts-listed file places lefts rights area n q x y R D T w q (omega arith) f;
+        is = λ _ R D T d F. facts-listed P n q x y R D T w q (omega arith) f;
       })
       go (no h) = rw (le-ltb w m (omega arith), rowBelow) (record {
         bound = inl refl;
-        nothing = λ _ R D T d F M. none-before file places lefts rights area n q x y R D T d w m (f .below) hm (omega arith) (facts-listed file places lefts rights area n q x y R D T w q (omega arith) f);
+        nothing = λ _ R D T d F M. none-before P n q x y R D T d w m (f .below) hm (omega arith) (facts-listed P n q x y R D T w q (omega arith) f);
         is = λ z. absurd (z refl);
       })
 
   -- the join was looked up, and does not have them as its parts
-  pub joins-other : (w : ℕ) (b : Bool) → Found file places n area (row file places n x ++ row file places n y) w → b ≡ listedIn lefts rights w m x y → b ≡ false → JoinIs file places lefts rights area n q m x y none
+  pub joins-other : (w : ℕ) (b : Bool) → Found file places n area (row file places n x ++ row file places n y) w → b ≡ listedIn lefts rights w m x y → b ≡ false → JoinIs P n q m x y none
   joins-other w b J e t = record {
     bound = inl refl;
-    nothing = λ _ R D T d F M. unlisted-join file places lefts rights area n q x y R D T w m hm d F J (sym e ∙ t);
+    nothing = λ _ R D T d F M. unlisted-join P n q x y R D T w m hm d F J (sym e ∙ t);
     is = λ z. absurd (z refl);
   }
 
   -- the two are not marked
-  pub joins-unmarked : (k : ℕ) (b : Bool) → k ≡ pairKey x y → b ≡ marked area 15360 k → b ≡ false → JoinIs file places lefts rights area n q m x y none
+  pub joins-unmarked : (k : ℕ) (b : Bool) → k ≡ pairKey x y → b ≡ marked area 15360 k → b ≡ false → JoinIs P n q m x y none
   joins-unmarked k b z f e = record {
     bound = inl refl;
-    nothing = λ _ R D T d F M. unmarked file places lefts rights area n q x y R D T m hm M (ap (marked area 15360) (sym z) ∙ sym f ∙ e);
+    nothing = λ _ R D T d F M. unmarked P n q x y R D T m hm M (ap (marked area 15360) (sym z) ∙ sym f ∙ e);
     is = λ z. absurd (z refl);
   }
 
-module _ (file places lefts rights area : List ℕ) (n q m x y r : ℕ) (J : JoinIs file places lefts rights area n q m x y r) where
-  pub is-joined : (r ≡ none → ⊥) → IsJoined file places lefts rights area n q m x y true
+module _ (P : PairTables) (n q m x y r : ℕ) (J : JoinIs P n q m x y r) where
+  pub is-joined : (r ≡ none → ⊥) → IsJoined P n q m x y true
   is-joined z = record { row = r; join = J; yes = λ _. z; no = λ e. absurd (true-false e) }
 
-  pub is-not-joined : r ≡ none → IsJoined file places lefts rights area n q m x y false
+  pub is-not-joined : r ≡ none → IsJoined P n q m x y false
   is-not-joined z = record { row = r; join = J; yes = λ e. absurd (true-false (sym e)); no = λ _. z }

@@ -15,6 +15,7 @@ use Rattle.theory.proofs.PairCheck.{Turned, turned}
 use Rattle.theory.proofs.PairSteps.{Falling, listed-none}
 use Rattle.phrase_file.specs.Form.{rows}
 use Rattle.placed_rows.specs.Rows.{row}
+use Rattle.tables.specs.Tables.{PairTables}
 use Rattle.tables.specs.Ready.{PlacesReady}
 use Rattle.marks.specs.Marks.{marked}
 use Rattle.token_pair.specs.Pair.{Tells, seamKey, firstByte, lastByte, seamAt, SeamsMarked, PairReady, PairIs, PassIs}
@@ -37,12 +38,12 @@ module _ (s t : List ℕ) where
   first-kept h = List·getD-append s t 0 0 (omega arith)
 
 -- the bytes s that are read of row c, as an index x
-module _ (file places : List ℕ) (n : ℕ) (P : PlacesReady file places n) (c x : ℕ) (h : c < n) (i : x ≡ c) (s : List ℕ) (e : s ≡ row file places n x) where
+module _ (file places : List ℕ) (n : ℕ) (Q : PlacesReady file places n) (c x : ℕ) (h : c < n) (i : x ≡ c) (s : List ℕ) (e : s ≡ row file places n x) where
   read-is : s ≡ getD (rows file) c []
-  read-is = e ∙ ap (row file places n) i ∙ P .rows-are c h
+  read-is = e ∙ ap (row file places n) i ∙ Q .rows-are c h
 
   pub read-filled : 1 ≤ length s
-  read-filled = omega (arith, ap length read-is, P .filled c h)
+  read-filled = omega (arith, ap length read-is, Q .filled c h)
 
   pub first-read : getD s 0 0 ≡ firstByte file c
   unfolding firstByte
@@ -68,7 +69,9 @@ module _ (file : List ℕ) (w x y : ℕ) (e : getD (rows file) w [] ≡ getD (ro
   unfolding firstByte
   first-is = rw e (first-kept (getD (rows file) x []) (getD (rows file) y []) fx)
 
-module _ (file places lefts rights area : List ℕ) (n q u v : ℕ) (R : PairReady file places lefts rights area n q u v) where
+module _ (P : PairTables) (n q u v : ℕ) (R : PairReady P n q u v) where
+  open PairTables P using (file, places, lefts, rights, area)
+
   -- the seam of the bytes a and b is not marked
   module _ (D : Dictionary) (T : Tells D file lefts rights q) (M : SeamsMarked file lefts area q) (a b : ℕ) (off : marked area 14848 (seamKey a b) ≡ false) where
     fall : Falling D q
@@ -128,11 +131,11 @@ module _ (file places lefts rights area : List ℕ) (n q u v : ℕ) (R : PairRea
         go undo-right g d ihl ihr = rw (f, g, walk) (ihr (fall .left-below y hy (d .long)) (sym (first-of-left y hy (d .long)) ∙ eb))
 
   -- two rows whose seam is not marked pass
-  pub pass-unmarked : (b : Bool) → b ≡ marked area 14848 (seamKey (lastByte file u) (firstByte file v)) → b ≡ false → PassIs file places lefts rights area n q u v true
+  pub pass-unmarked : (b : Bool) → b ≡ marked area 14848 (seamKey (lastByte file u) (firstByte file v)) → b ≡ false → PassIs P n q u v true
   pass-unmarked b e z = record {
     passes-is = λ D T d F M S. sym (walks D T S (lastByte file u) (firstByte file v) (sym e ∙ z) (suc (u + v)) u v q (R .left-below) (R .right-below) (omega arith) (omega arith) refl refl);
   }
 
 -- the pair check was asked
-pub pass-checked : (file places lefts rights area : List ℕ) (n q u v : ℕ) (r : Bool) → PairIs file places lefts rights area n q u v r → PassIs file places lefts rights area n q u v r
-pass-checked file places lefts rights area n q u v r p = record { passes-is = λ D T d F M S. p .passes-is D T d F M }
+pub pass-checked : (P : PairTables) (n q u v : ℕ) (r : Bool) → PairIs P n q u v r → PassIs P n q u v r
+pass-checked P n q u v r p = record { passes-is = λ D T d F M S. p .passes-is D T d F M }

@@ -15,6 +15,7 @@ use Rattle.theory.proofs.Lists.{true-false}
 use Rattle.theory.specs.PairCheck.{listedBelow, passes}
 use Rattle.theory.proofs.PairSteps.{listed-one, Falling, checks, check-fails, check-ends, check-left, check-right}
 use Rattle.phrase_file.specs.Form.{rows}
+use Rattle.tables.specs.Tables.{PairTables}
 use Rattle.tables.specs.Ready.{PlacesReady, PartsReady}
 use Rattle.placed_rows.specs.Rows.{none}
 use Rattle.search_area.specs.Area.{Finds}
@@ -38,7 +39,7 @@ module _ (x y p : ℕ) (r : Bool) (e : r ≡ ltb y x || eqb p y) where
       go (no h) = (omega arith, λ z. true-false (sym (rw (le-ltb y x (omega arith), eq-eqb p y z) at e) ∙ f))
 
 -- what stands still while two rows are undone
-module _ (file places lefts rights : List ℕ) (n q : ℕ) (P : PlacesReady file places n) (S : PartsReady file lefts rights q) (few : q ≤ n) where
+module _ (file places lefts rights : List ℕ) (n q : ℕ) (Q : PlacesReady file places n) (S : PartsReady file lefts rights q) (few : q ≤ n) where
   -- a part that differs from its row is that of a longer row, and is lower
   pub record Part (c part : ℕ) : Type 0 where
     pub lower : part < c
@@ -49,7 +50,7 @@ module _ (file places lefts rights : List ℕ) (n q : ℕ) (P : PlacesReady file
     where
       go : Dec (length (getD (rows file) c []) ≡ 1) → (length (getD (rows file) c []) ≡ 1) ⊎ (1 < length (getD (rows file) c []))
       go (yes e) = inl e
-      go (no e) = inr (let f = P .filled c (omega arith) in omega arith)
+      go (no e) = inr (let f = Q .filled c (omega arith) in omega arith)
 
   pub right-part : (c p : ℕ) → c < q → p ≡ getD rights c 0 → (p ≡ c → ⊥) → Part c p
   right-part c p h e d = ⊎-elim (λ o. absurd (d (e ∙ S .single c h o .1))) (λ l. record { lower = rw e (S .lower c h l .right); longer = l }) (sized c h)
@@ -90,15 +91,15 @@ module _ (file places lefts rights : List ℕ) (n q : ℕ) (P : PlacesReady file
             rw (e, T .left y hy, add-one) (check-right D (listedBelow D) q falling x y m hx hy clear (Joins.long file lefts rights q D T y hy (r .longer)) (λ l. h (Joins.longer file lefts rights q D T x hx l)))
 
 -- the two rows and the limit at a turn of the loop, and that what is left to check decides the whole
-pub record Walking (file places lefts rights area : List ℕ) (n q u v left right bound : ℕ) : Type 0 where
-  pub ready : PairReady file places lefts rights area n q u v
+pub record Walking (P : PairTables) (n q u v left right bound : ℕ) : Type 0 where
+  pub ready : PairReady P n q u v
   pub left-below : left < q
   pub right-below : right < q
   pub bound-below : bound ≤ q
-  pub same : (D : Dictionary) → Tells D file lefts rights q → Distinct file → Finds file places n area → PairsMarked lefts rights area q → checks D (listedBelow D) left right bound ≡ passes D q u v
+  pub same : (D : Dictionary) → Tells D (P .file) (P .lefts) (P .rights) q → Distinct (P .file) → Finds (P .file) (P .places) n (P .area) → PairsMarked (P .lefts) (P .rights) (P .area) q → checks D (listedBelow D) left right bound ≡ passes D q u v
 
-pub walk-start : (file places lefts rights area : List ℕ) (n q u v : ℕ) → PairReady file places lefts rights area n q u v → Walking file places lefts rights area n q u v u v q
-walk-start file places lefts rights area n q u v R = record {
+pub walk-start : (P : PairTables) (n q u v : ℕ) → PairReady P n q u v → Walking P n q u v u v q
+walk-start P n q u v R = record {
   ready = R;
   left-below = R .left-below;
   right-below = R .right-below;
@@ -106,8 +107,8 @@ walk-start file places lefts rights area n q u v R = record {
   same = λ D T d F M. refl;
 }
 
-module _ (file places lefts rights area : List ℕ) (n q u v x y m : ℕ) (W : Walking file places lefts rights area n q u v x y m) where
-  pub walk-joins : JoinReady file places lefts rights area n q m x y
+module _ (P : PairTables) (n q u v x y m : ℕ) (W : Walking P n q u v x y m) where
+  pub walk-joins : JoinReady P n q m x y
   walk-joins =
       let f = W .ready .few in
       record {
@@ -120,7 +121,7 @@ module _ (file places lefts rights area : List ℕ) (n q u v x y m : ℕ) (W : W
         right-below = omega (arith, W .right-below);
       }
 
-  here : PairReady file places lefts rights area n q x y
+  here : PairReady P n q x y
   here = record {
     places-ready = W .ready .places-ready;
     parts-ready = W .ready .parts-ready;
@@ -130,12 +131,14 @@ module _ (file places lefts rights area : List ℕ) (n q u v x y m : ℕ) (W : W
     right-below = W .right-below;
   }
 
-module _ (file places lefts rights area : List ℕ) (n q u v x y m b : ℕ) (W : Walking file places lefts rights area n q u v x y m)
-    (J : JoinIs file places lefts rights area n q m x y b) where
-  some : (b ≡ none → ⊥) → (D : Dictionary) → Tells D file lefts rights q → Distinct file → Finds file places n area → listedBelow D m x y ≡ true
-  some z D T d F = listed-one D m x y b (⊎-elim (λ e. absurd (z e)) (λ h. h) (J .bound)) (J .is z (here file places lefts rights area n q u v x y m W) D T d F)
+module _ (P : PairTables) (n q u v x y m b : ℕ) (W : Walking P n q u v x y m)
+    (J : JoinIs P n q m x y b) where
+  open PairTables P using (file, places, lefts, rights, area)
 
-  pub walk-fails : (b ≡ none → ⊥) → PairIs file places lefts rights area n q u v false
+  some : (b ≡ none → ⊥) → (D : Dictionary) → Tells D file lefts rights q → Distinct file → Finds file places n area → listedBelow D m x y ≡ true
+  some z D T d F = listed-one D m x y b (⊎-elim (λ e. absurd (z e)) (λ h. h) (J .bound)) (J .is z (here P n q u v x y m W) D T d F)
+
+  pub walk-fails : (b ≡ none → ⊥) → PairIs P n q u v false
   walk-fails l = record {
     passes-is = λ D T d F M.
         sym (fails file places lefts rights n q (W .ready .places-ready) (W .ready .parts-ready) (W .ready .few) D T x y m (W .left-below) (W .right-below) (some l D T d F))
@@ -144,28 +147,28 @@ module _ (file places lefts rights area : List ℕ) (n q u v x y m b : ℕ) (W :
 
   module _ (l : b ≡ none) where
     clear : (D : Dictionary) → Tells D file lefts rights q → Distinct file → Finds file places n area → PairsMarked lefts rights area q → listedBelow D m x y ≡ false
-    clear = J .nothing l (here file places lefts rights area n q u v x y m W)
+    clear = J .nothing l (here P n q u v x y m W)
 
-    pub walk-ends : (p r : ℕ) → p ≡ getD rights x 0 → p ≡ x → r ≡ getD lefts y 0 → r ≡ y → PairIs file places lefts rights area n q u v true
+    pub walk-ends : (p r : ℕ) → p ≡ getD rights x 0 → p ≡ x → r ≡ getD lefts y 0 → r ≡ y → PairIs P n q u v true
     walk-ends p r ep dp er dr =
-        let P = W .ready .places-ready in
+        let Q = W .ready .places-ready in
         let S = W .ready .parts-ready in
         let f = W .ready .few in
         record {
           passes-is = λ D T d F M.
-              sym (ends file places lefts rights n q P S f D T x y m (W .left-below) (W .right-below) (clear D T d F M)
-              (right-single file places lefts rights n q P S f x p (W .left-below) ep dp) (left-single file places lefts rights n q P S f y r (W .right-below) er dr))
+              sym (ends file places lefts rights n q Q S f D T x y m (W .left-below) (W .right-below) (clear D T d F M)
+              (right-single file places lefts rights n q Q S f x p (W .left-below) ep dp) (left-single file places lefts rights n q Q S f y r (W .right-below) er dr))
               ∙ W .same D T d F M;
         }
 
     -- the left one is undone: it is longer, and the right one is lower or a single byte
     pub walk-left : (p r : ℕ) → p ≡ getD rights x 0 → (p ≡ x → ⊥) → r ≡ getD lefts y 0 → (y < x) ⊎ (r ≡ y)
-        → (p < x) × Walking file places lefts rights area n q u v p y x
+        → (p < x) × Walking P n q u v p y x
     walk-left p r ep dp er o =
-        let P = W .ready .places-ready in
+        let Q = W .ready .places-ready in
         let S = W .ready .parts-ready in
         let f = W .ready .few in
-        let a = right-part file places lefts rights n q P S f x p (W .left-below) ep dp in
+        let a = right-part file places lefts rights n q Q S f x p (W .left-below) ep dp in
         let lo = a .lower in
         let hx = W .left-below in (
           lo,
@@ -175,19 +178,19 @@ module _ (file places lefts rights area : List ℕ) (n q u v x y m b : ℕ) (W :
             right-below = W .right-below;
             bound-below = omega arith;
             same = λ D T d F M.
-                sym (undo-left file places lefts rights n q P S f D T x y m (W .left-below) (W .right-below) (clear D T d F M) p ep a
-                (λ z. ⊎-elim (λ h. h) (λ e. absurd (let s = left-single file places lefts rights n q P S f y r (W .right-below) er e in omega arith)) o))
+                sym (undo-left file places lefts rights n q Q S f D T x y m (W .left-below) (W .right-below) (clear D T d F M) p ep a
+                (λ z. ⊎-elim (λ h. h) (λ e. absurd (let s = left-single file places lefts rights n q Q S f y r (W .right-below) er e in omega arith)) o))
                 ∙ W .same D T d F M;
           },
         )
 
     pub walk-right : (p r : ℕ) → p ≡ getD rights x 0 → r ≡ getD lefts y 0 → (r ≡ y → ⊥) → (x ≤ y) ⊎ (p ≡ x)
-        → (r < y) × Walking file places lefts rights area n q u v x r (y + 1)
+        → (r < y) × Walking P n q u v x r (y + 1)
     walk-right p r ep er dr o =
-        let P = W .ready .places-ready in
+        let Q = W .ready .places-ready in
         let S = W .ready .parts-ready in
         let f = W .ready .few in
-        let a = left-part file places lefts rights n q P S f y r (W .right-below) er dr in
+        let a = left-part file places lefts rights n q Q S f y r (W .right-below) er dr in
         let lo = a .lower in
         let hy = W .right-below in (
           lo,
@@ -197,8 +200,8 @@ module _ (file places lefts rights area : List ℕ) (n q u v x y m b : ℕ) (W :
             right-below = omega arith;
             bound-below = omega arith;
             same = λ D T d F M.
-                sym (undo-right file places lefts rights n q P S f D T x y m (W .left-below) (W .right-below) (clear D T d F M) r er a
-                (λ z. ⊎-elim (λ h. h) (λ e. absurd (let s = right-single file places lefts rights n q P S f x p (W .left-below) ep e in omega arith)) o))
+                sym (undo-right file places lefts rights n q Q S f D T x y m (W .left-below) (W .right-below) (clear D T d F M) r er a
+                (λ z. ⊎-elim (λ h. h) (λ e. absurd (let s = right-single file places lefts rights n q Q S f x p (W .left-below) ep e in omega arith)) o))
                 ∙ W .same D T d F M;
           },
         )

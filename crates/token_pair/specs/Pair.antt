@@ -11,6 +11,7 @@ use Rattle.theory.specs.Paper.{listed}
 use Rattle.theory.specs.PairCheck.{listedBelow, passes}
 use Rattle.phrase_file.specs.Form.{rows}
 use Rattle.placed_rows.specs.Rows.{none, Placed}
+use Rattle.tables.specs.Tables.{PairTables}
 use Rattle.tables.specs.Ready.{PlacesReady, PartsReady}
 use Rattle.search_area.specs.Area.{Finds}
 use Rattle.marks.specs.Marks.{marked, bitKey}
@@ -67,10 +68,10 @@ abbrev pub SeamsMarked : List ℕ → List ℕ → List ℕ → ℕ → Type 0
 SeamsMarked file lefts area q = (c : ℕ) → c < q → getD lefts c 0 < c → marked area 14848 (seamAt file c (getD lefts c 0)) ≡ true
 
 -- what may be read: the rows, the parts of the rows below q, and two such rows
-pub record PairReady (file places lefts rights area : List ℕ) (n q u v : ℕ) : Type 0 where
-  pub places-ready : PlacesReady file places n
-  pub parts-ready : PartsReady file lefts rights q
-  pub area-room : 16384 ≤ length area
+pub record PairReady (P : PairTables) (n q u v : ℕ) : Type 0 where
+  pub places-ready : PlacesReady (P .file) (P .places) n
+  pub parts-ready : PartsReady (P .file) (P .lefts) (P .rights) q
+  pub area-room : 16384 ≤ length (P .area)
   pub few : q ≤ n
   pub left-below : u < q
   pub right-below : v < q
@@ -87,34 +88,34 @@ unfoldable pub listedIn : List ℕ → List ℕ → ℕ → ℕ → ℕ → ℕ 
 listedIn lefts rights c m u v = ltb c m && (eqb (getD lefts c 0) u && (ltb u c && eqb (getD rights c 0) v))
 
 -- what may be read for one join below m: the rows, the parts of the rows below q, and two rows
-pub record JoinReady (file places lefts rights area : List ℕ) (n q m u v : ℕ) : Type 0 where
-  pub placed : Placed file places n
-  pub area-room : 16384 ≤ length area
-  pub left-room : q ≤ length lefts
-  pub right-room : q ≤ length rights
+pub record JoinReady (P : PairTables) (n q m u v : ℕ) : Type 0 where
+  pub placed : Placed (P .file) (P .places) n
+  pub area-room : 16384 ≤ length (P .area)
+  pub left-room : q ≤ length (P .lefts)
+  pub right-room : q ≤ length (P .rights)
   pub below : m ≤ q
   pub left-below : u < n
   pub right-below : v < n
 
 -- r is the row below m that has u and v as its parts, or none
-pub record JoinIs (file places lefts rights area : List ℕ) (n q m u v r : ℕ) : Type 0 where
+pub record JoinIs (P : PairTables) (n q m u v r : ℕ) : Type 0 where
   pub bound : (r ≡ none) ⊎ (r < m)
-  pub nothing : r ≡ none → PairReady file places lefts rights area n q u v → (D : Dictionary) → Tells D file lefts rights q → Distinct file → Finds file places n area → PairsMarked lefts rights area q
+  pub nothing : r ≡ none → PairReady P n q u v → (D : Dictionary) → Tells D (P .file) (P .lefts) (P .rights) q → Distinct (P .file) → Finds (P .file) (P .places) n (P .area) → PairsMarked (P .lefts) (P .rights) (P .area) q
       → listedBelow D m u v ≡ false
-  pub is : (r ≡ none → ⊥) → PairReady file places lefts rights area n q u v → (D : Dictionary) → Tells D file lefts rights q → Distinct file → Finds file places n area
+  pub is : (r ≡ none → ⊥) → PairReady P n q u v → (D : Dictionary) → Tells D (P .file) (P .lefts) (P .rights) q → Distinct (P .file) → Finds (P .file) (P .places) n (P .area)
       → listed D r u v ≡ true
 
 -- whether there is such a row
-pub record IsJoined (file places lefts rights area : List ℕ) (n q m u v : ℕ) (b : Bool) : Type 0 where
+pub record IsJoined (P : PairTables) (n q m u v : ℕ) (b : Bool) : Type 0 where
   pub row : ℕ
-  pub join : JoinIs file places lefts rights area n q m u v row
+  pub join : JoinIs P n q m u v row
   pub yes : b ≡ true → row ≡ none → ⊥
   pub no : b ≡ false → row ≡ none
 
 -- the answer is that of the pair check over the rows below q
-pub record PairIs (file places lefts rights area : List ℕ) (n q u v : ℕ) (r : Bool) : Type 0 where
-  pub passes-is : (D : Dictionary) → Tells D file lefts rights q → Distinct file → Finds file places n area → PairsMarked lefts rights area q → r ≡ passes D q u v
+pub record PairIs (P : PairTables) (n q u v : ℕ) (r : Bool) : Type 0 where
+  pub passes-is : (D : Dictionary) → Tells D (P .file) (P .lefts) (P .rights) q → Distinct (P .file) → Finds (P .file) (P .places) n (P .area) → PairsMarked (P .lefts) (P .rights) (P .area) q → r ≡ passes D q u v
 
 -- the answer is the same where the marks of seams are looked at too
-pub record PassIs (file places lefts rights area : List ℕ) (n q u v : ℕ) (r : Bool) : Type 0 where
-  pub passes-is : (D : Dictionary) → Tells D file lefts rights q → Distinct file → Finds file places n area → PairsMarked lefts rights area q → SeamsMarked file lefts area q → r ≡ passes D q u v
+pub record PassIs (P : PairTables) (n q u v : ℕ) (r : Bool) : Type 0 where
+  pub passes-is : (D : Dictionary) → Tells D (P .file) (P .lefts) (P .rights) q → Distinct (P .file) → Finds (P .file) (P .places) n (P .area) → PairsMarked (P .lefts) (P .rights) (P .area) q → SeamsMarked (P .file) (P .lefts) (P .area) q → r ≡ passes D q u v

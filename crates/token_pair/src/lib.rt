@@ -6,6 +6,7 @@ ghost use lib.Dec.{ltb, eqb};
 ghost use mathlib.Core.Bool.{_||_};
 ghost use Rattle.marks.specs.Marks.{marked};
 ghost use Rattle.token_pair.specs.Pair.{pairKey, hintPlace, rowBelow, seamBit, seamKey, firstByte, lastByte, listedIn, JoinReady, JoinIs, IsJoined, SeamReady, PairReady, PairIs, PassIs};
+ghost use Rattle.tables.specs.Tables.{pairGiven, pairLent};
 use placed_rows::NONE;
 use placed_rows::bytes_of;
 use placed_rows::wide;
@@ -86,8 +87,8 @@ fn look_up(
     left: u32,
     right: u32,
 ) -> u32
-    requires { ⌜ JoinReady (now file) (now places) (now lefts) (now rights) (now area) n limit bound left right ⌝ }
-    ensures { λ r. ⌜ JoinIs (now (file .entry)) (now (places .entry)) (now (lefts .entry)) (now (rights .entry)) (now (area .entry)) n limit bound left right r ⌝ }
+    requires { ⌜ JoinReady (pairGiven file places lefts rights area) n limit bound left right ⌝ }
+    ensures { λ r. ⌜ JoinIs (pairLent file places lefts rights area) n limit bound left right r ⌝ }
 {
     let hint = hint_at(area, hint_place(left, right));
     if is_listed_before(lefts, rights, hint, limit, left, right) {
@@ -113,8 +114,8 @@ pub fn join_before(
     left: u32,
     right: u32,
 ) -> u32
-    requires { ⌜ JoinReady (now file) (now places) (now lefts) (now rights) (now area) n limit bound left right ⌝ }
-    ensures { λ r. ⌜ JoinIs (now (file .entry)) (now (places .entry)) (now (lefts .entry)) (now (rights .entry)) (now (area .entry)) n limit bound left right r ⌝ }
+    requires { ⌜ JoinReady (pairGiven file places lefts rights area) n limit bound left right ⌝ }
+    ensures { λ r. ⌜ JoinIs (pairLent file places lefts rights area) n limit bound left right r ⌝ }
 {
     if !marks::is_marked(area, PAIRS, pair_key(left, right)) {
         return NONE;
@@ -146,8 +147,8 @@ fn is_joined_before(
     left: u32,
     right: u32,
 ) -> bool
-    requires { ⌜ JoinReady (now file) (now places) (now lefts) (now rights) (now area) n limit bound left right ⌝ }
-    ensures { λ r. ⌜ IsJoined (now (file .entry)) (now (places .entry)) (now (lefts .entry)) (now (rights .entry)) (now (area .entry)) n limit bound left right r ⌝ }
+    requires { ⌜ JoinReady (pairGiven file places lefts rights area) n limit bound left right ⌝ }
+    ensures { λ r. ⌜ IsJoined (pairLent file places lefts rights area) n limit bound left right r ⌝ }
 {
     if !marks::is_marked(area, PAIRS, pair_key(left, right)) {
         return false;
@@ -192,8 +193,8 @@ pub fn is_valid_pair_below(
     token1: u32,
     token2: u32,
 ) -> bool
-    requires { ⌜ PairReady (now file) (now places) (now lefts) (now rights) (now area) n limit token1 token2 ⌝ }
-    ensures { λ r. ⌜ PairIs (now (file .entry)) (now (places .entry)) (now (lefts .entry)) (now (rights .entry)) (now (area .entry)) n limit token1 token2 r ⌝ }
+    requires { ⌜ PairReady (pairGiven file places lefts rights area) n limit token1 token2 ⌝ }
+    ensures { λ r. ⌜ PairIs (pairLent file places lefts rights area) n limit token1 token2 r ⌝ }
 {
     let mut left = token1;
     let mut right = token2;
@@ -280,8 +281,8 @@ pub fn is_valid_pair(
     token1: u32,
     token2: u32,
 ) -> bool
-    requires { ⌜ PairReady (now file) (now places) (now lefts) (now rights) (now area) n limit token1 token2 ⌝ }
-    ensures { λ r. ⌜ PassIs (now (file .entry)) (now (places .entry)) (now (lefts .entry)) (now (rights .entry)) (now (area .entry)) n limit token1 token2 r ⌝ }
+    requires { ⌜ PairReady (pairGiven file places lefts rights area) n limit token1 token2 ⌝ }
+    ensures { λ r. ⌜ PassIs (pairLent file places lefts rights area) n limit token1 token2 r ⌝ }
 {
     if !may_meet(file, places, n, area, token1, token2) {
         return true;

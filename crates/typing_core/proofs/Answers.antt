@@ -13,7 +13,7 @@ use Rattle.phrase_file.proofs.Checks.{accepted}
 use Rattle.theory.specs.Dictionary.{Octets}
 use Rattle.theory.specs.Typing.{Side, inForm}
 use Rattle.theory.proofs.Typing.{TrueAt, forms-true}
-use Rattle.tables.specs.Tables.{Tables}
+use Rattle.tables.specs.Tables.{Tables, pairTables, withoutPrefixes}
 use Rattle.tables.specs.declared.Form.{Form}
 use Rattle.tables.specs.declared.Form.the-variants.{Rows, Out}
 use Rattle.tables.specs.declared.Answer.the-variants.{Number, Refused}
@@ -88,7 +88,7 @@ same-build T n m P B =
 -- the records may be read
 pub checked-records-ready : (T : Tables) (len : ℕ) (bytes codes counts reading₀ reading : List ℕ) (n : ℕ)
     → formOf T ≡ Rows n → Sizes bytes codes counts reading₀ → Mirrored bytes reading len
-    → RecordsReady (T .file) (T .places) (T .lefts) (T .rights) (T .area) n bytes reading codes counts len
+    → RecordsReady (withoutPrefixes T) n bytes reading codes counts len
 checked-records-ready T len bytes codes counts reading₀ reading n e S M = record {
   in-form = parts-in-form T n (ready T n e);
   mirrored = M;
@@ -97,7 +97,7 @@ checked-records-ready T len bytes codes counts reading₀ reading n e S M = reco
 }
 
 module _ (T : Tables) (side : Side) (len size : ℕ) (bytes codes counts : List ℕ) where
-  open Tables T using (file, places, lefts, rights, prefixes, area)
+  open Tables T using (file, prefixes)
 
   abbrev form : Form
   form = formOf T
@@ -121,17 +121,17 @@ module _ (T : Tables) (side : Side) (len size : ℕ) (bytes codes counts : List 
       pub checked-long : len ≤ size → 4096 < len → Checked T side len size bytes codes counts reading Out
       checked-long h k = record { fine = formed; form = unread; answer = rw (e, le-ltb size len h, lt-ltb 4096 len k); passed = λ m z. absurd (out-rows m z) }
 
-      read : (r : Bool) → RecordsAre file places lefts rights area side n bytes codes counts len r → FormOf T side len size bytes codes counts r
+      read : (r : Bool) → RecordsAre (withoutPrefixes T) side n bytes codes counts len r → FormOf T side len size bytes codes counts r
       read r R = record {
         none-yet = R .none-yet;
         built = λ m B h. R .built prefixes (same-build T n m (ready T n e .places-ready) B);
       }
 
       module _ (h : len ≤ size) (k : len ≤ 4096) where
-        pub checked-broken : RecordsAre file places lefts rights area side n bytes codes counts len false → Checked T side len size bytes codes counts reading Out
+        pub checked-broken : RecordsAre (withoutPrefixes T) side n bytes codes counts len false → Checked T side len size bytes codes counts reading Out
         checked-broken R = record { fine = false; form = read false R; answer = rw (e, le-ltb size len h, le-ltb 4096 len k); passed = λ m z. absurd (out-rows m z) }
 
-        pub checked-passed : RecordsAre file places lefts rights area side n bytes codes counts len true → Mirrored bytes reading len → Octets bytes
+        pub checked-passed : RecordsAre (withoutPrefixes T) side n bytes codes counts len true → Mirrored bytes reading len → Octets bytes
             → Checked T side len size bytes codes counts reading (Rows n)
         checked-passed R M o = record {
           fine = true;
@@ -187,7 +187,7 @@ module _ (T : Tables) (side : Side) (len size : ℕ) (bytes codes counts : List 
           pub extend-most : 4096 < len + length typed → ExtendedColumns T side len size bytes codes counts typed (Refused (Full len)) bytes' codes' counts'
           extend-most h = refused (C .fine) (C .form) (Full len) (refuse-most form len size (C .fine) typed short right fits h)
 
-          pub extend-done : len + length typed ≤ 4096 → ExtendedBy file places lefts rights area side n len bytes codes counts typed bytes' codes' counts'
+          pub extend-done : len + length typed ≤ 4096 → ExtendedBy (withoutPrefixes T) side n len bytes codes counts typed bytes' codes' counts'
               → ExtendedColumns T side len size bytes codes counts typed (Number (len + length typed)) bytes' codes' counts'
           extend-done h X = record {
             fine = C .fine;
@@ -207,7 +207,7 @@ module _ (T : Tables) (side : Side) (len size : ℕ) (bytes codes counts : List 
 
   -- the columns may be extended
   pub extend-ready : (typed reading : List ℕ) (n : ℕ) → Checked T side len size bytes codes counts reading (Rows n)
-      → len + length typed ≤ 4096 → length codes ≡ 4096 → length counts ≡ 4096 → ExtendReady file places lefts rights area n len bytes codes counts typed
+      → len + length typed ≤ 4096 → length codes ≡ 4096 → length counts ≡ 4096 → ExtendReady (withoutPrefixes T) n len bytes codes counts typed
   extend-ready typed reading n C h c k =
       let P = C .passed n refl in
       record { in-form = parts-in-form T n (P .tables); room = h; bytes-size = P .mirrored .bytes-size; codes-size = c; counts-size = k; rows = P .rows; small = P .small }

@@ -16,32 +16,36 @@ use Rattle.typing_core.specs.declared.Side as Declared
 use Rattle.typing_core.specs.declared.Side.the-variants.{Append, Prepend}
 use Rattle.typing_core.specs.Sides.{sideOf}
 use Rattle.typing_core.specs.Steps.{followsCode, countWith, PairOf, BesideIs, FollowsReady, FollowsIs, CountReady, CountIs}
-use Rattle.tables.specs.Tables.{tables}
+use Rattle.tables.specs.Tables.{PairTables, withPrefixes}
 
 -- the order of the pair check
-module _ (file places lefts rights area : List ℕ) (s : Declared.Side) (n before c : ℕ) (r : Bool) where
-  pub beside-appended : s ≡ Append → PairIs file places lefts rights area n n before c r → BesideIs file places lefts rights area (sideOf s) n before c r
-  beside-appended e p = record { built = λ prefixes B. rw e (pair-is (tables file places lefts rights prefixes area) n B before c r p) }
+module _ (P : PairTables) (s : Declared.Side) (n before c : ℕ) (r : Bool) where
+  pub beside-appended : s ≡ Append → PairIs P n n before c r → BesideIs P (sideOf s) n before c r
+  beside-appended e p = record { built = λ prefixes B. rw e (pair-is (withPrefixes P prefixes) n B before c r p) }
 
-  pub beside-prepended : s ≡ Prepend → PairIs file places lefts rights area n n c before r → BesideIs file places lefts rights area (sideOf s) n before c r
-  beside-prepended e p = record { built = λ prefixes B. rw e (pair-is (tables file places lefts rights prefixes area) n B c before r p) }
+  pub beside-prepended : s ≡ Prepend → PairIs P n n c before r → BesideIs P (sideOf s) n before c r
+  beside-prepended e p = record { built = λ prefixes B. rw e (pair-is (withPrefixes P prefixes) n B c before r p) }
 
 or-none : (a b : Bool) → b ≡ false → a ≡ a || b
 or-none true b e = refl
 or-none false b e = sym e
 
 -- the record before a row
-module _ (file places lefts rights area : List ℕ) (n : ℕ) (codes : List ℕ) (i c len : ℕ)
-    (R : FollowsReady file places lefts rights area n codes i c) (size : len ≡ length (dictionaryOf file .bytes c)) (h : len ≤ i) where
+module _ (P : PairTables) (n : ℕ) (codes : List ℕ) (i c len : ℕ)
+    (R : FollowsReady P n codes i c) (size : len ≡ length (dictionaryOf (P .file) .bytes c)) (h : len ≤ i) where
+  open PairTables P using (file, places)
+
   pub follows-entry : i - len < i
   follows-entry = omega (arith, size, row-some file places n c (record { places-ready = R .in-form .places-ready; row = R .row }))
 
-  pub follows-pair-of : PairOf file places lefts rights area n (getD codes (i - len) 0) c
+  pub follows-pair-of : PairOf P n (getD codes (i - len) 0) c
   follows-pair-of = record { in-form = R .in-form; before-row = R .before .rows (i - len) follows-entry; row = R .row }
 
-module _ (file places lefts rights area : List ℕ) (side : Side) (n : ℕ) (codes : List ℕ) (i c len : ℕ) (size : len ≡ length (dictionaryOf file .bytes c)) where
+module _ (P : PairTables) (side : Side) (n : ℕ) (codes : List ℕ) (i c len : ℕ) (size : len ≡ length (dictionaryOf (P .file) .bytes c)) where
+  open PairTables P using (file)
+
   -- the row reaches the first byte or is longer
-  pub follows-whole : i < len → FollowsIs file places lefts rights area side n codes i c (eqb len (i + 1))
+  pub follows-whole : i < len → FollowsIs P side n codes i c (eqb len (i + 1))
   unfolding followsCode
   follows-whole h = record {
     built = λ prefixes B.
@@ -49,11 +53,11 @@ module _ (file places lefts rights area : List ℕ) (side : Side) (n : ℕ) (cod
         rw (z, size) (or-none (eqb (length (dictionaryOf file .bytes c)) (suc i)) _ (rw (le-ltb (length (dictionaryOf file .bytes c)) (suc i) (omega arith))));
   }
 
-  pub follows-beside : len ≤ i → (r : Bool) → BesideIs file places lefts rights area side n (getD codes (i - len) 0) c r → FollowsIs file places lefts rights area side n codes i c r
+  pub follows-beside : len ≤ i → (r : Bool) → BesideIs P side n (getD codes (i - len) 0) c r → FollowsIs P side n codes i c r
   unfolding followsCode
-  follows-beside h r P = record {
+  follows-beside h r Q = record {
     built = λ prefixes B.
-        P .built prefixes B
+        Q .built prefixes B
         ∙ rw (size, ne-eqb (length (dictionaryOf file .bytes c)) (suc i) (λ e. omega arith), lt-ltb (length (dictionaryOf file .bytes c)) (suc i) (omega arith));
   }
 

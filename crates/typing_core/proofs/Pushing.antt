@@ -15,10 +15,12 @@ use Rattle.built.specs.Built.{dictionaryOf, Built}
 use Rattle.end_code.specs.Tables.{RowsTo, PartsInForm}
 use Rattle.end_code.specs.Codes.{CodeReady}
 use Rattle.typing_core.specs.Steps.{CountsTo, CodesAre, CountsAre, CountReady, CountIs, CodeIs, PushReady, Pushed, ExtendReady, ExtendedBy}
-use Rattle.tables.specs.Tables.{tables}
+use Rattle.tables.specs.Tables.{PairTables, withPrefixes}
 
-module _ (file places lefts rights area : List ℕ) (n i : ℕ) (bytes codes counts : List ℕ) (R : PushReady file places lefts rights area n i bytes codes counts) where
-  pub push-code-ready : (byte : ℕ) → CodeReady file places lefts rights area n (set bytes i byte) i codes
+module _ (P : PairTables) (n i : ℕ) (bytes codes counts : List ℕ) (R : PushReady P n i bytes codes counts) where
+  open PairTables P using (file, places)
+
+  pub push-code-ready : (byte : ℕ) → CodeReady P n (set bytes i byte) i codes
   push-code-ready byte = record {
     in-form = R .in-form;
     inside = omega (arith, length-set bytes i byte, R .bytes-size, R .place);
@@ -34,8 +36,8 @@ module _ (file places lefts rights area : List ℕ) (n i : ℕ) (bytes codes cou
     row = h;
   }
 
-  pub push-made : (side : Side) (byte code count : ℕ) → CodeIs file places lefts rights area side n (set bytes i byte) i codes code → CountIs file counts i code count
-      → Pushed file places lefts rights area side n i byte bytes codes counts (set bytes i byte) (set codes i code) (set counts i count)
+  pub push-made : (side : Side) (byte code count : ℕ) → CodeIs P side n (set bytes i byte) i codes code → CountIs file counts i code count
+      → Pushed P side n i byte bytes codes counts (set bytes i byte) (set codes i code) (set counts i count)
   push-made side byte code count C K = record {
     code = code;
     count = count;
@@ -49,13 +51,15 @@ module _ (file places lefts rights area : List ℕ) (n i : ℕ) (bytes codes cou
   }
 
 -- what holds of each entry below i and of the one set holds of each below i + 1
-at-set : (P : ℕ → ℕ → Type 0) (l : List ℕ) (i v m : ℕ) → i < length l → m ≡ suc i → ((j : ℕ) → j < i → P j (getD l j 0)) → P i v → (j : ℕ) → j < m → P j (getD (set l i v) j 0)
-at-set P l i v m h z below here j k = ⊎-elim
+at-set : (Q : ℕ → ℕ → Type 0) (l : List ℕ) (i v m : ℕ) → i < length l → m ≡ suc i → ((j : ℕ) → j < i → Q j (getD l j 0)) → Q i v → (j : ℕ) → j < m → Q j (getD (set l i v) j 0)
+at-set Q l i v m h z below here j k = ⊎-elim
     (λ e. let y : j ≡ i = omega arith in rw (y, getD-set-same l i v 0 h) here)
     (λ b. rw (getD-set-other l i j v 0 (λ y. omega arith)) (below j (omega arith)))
     (eq-or-lt-of-le k)
 
-module _ (file places lefts rights area : List ℕ) (side : Side) (n len : ℕ) (bytes₀ codes₀ counts₀ typed : List ℕ) where
+module _ (P : PairTables) (side : Side) (n len : ℕ) (bytes₀ codes₀ counts₀ typed : List ℕ) where
+  open PairTables P using (file)
+
   abbrev D : Dictionary
   D = dictionaryOf file
 
@@ -65,7 +69,7 @@ module _ (file places lefts rights area : List ℕ) (side : Side) (n len : ℕ) 
 
   -- k of the bytes are typed
   pub record Extending (k : ℕ) (bytes codes counts : List ℕ) : Type 0 where
-    pub in-form : PartsInForm file places lefts rights area n
+    pub in-form : PartsInForm P n
     pub room : len + length typed ≤ 4096
     pub start-size : length bytes₀ ≡ 4096
     pub within : k ≤ length typed
@@ -78,10 +82,10 @@ module _ (file places lefts rights area : List ℕ) (side : Side) (n len : ℕ) 
     pub codes-kept : (j : ℕ) → j < len → getD codes j 0 ≡ getD codes₀ j 0
     pub counts-kept : (j : ℕ) → j < len → getD counts j 0 ≡ getD counts₀ j 0
     pub bytes-are : (m : ℕ) → m < k → getD bytes (len + m) 0 ≡ getD typed m 0
-    pub codes-are : (prefixes : List ℕ) → Built (tables file places lefts rights prefixes area) n → CodesAre file side bytes₀ codes₀ len → CountsAre file side bytes₀ counts₀ len → CodesAre file side s codes (len + k)
-    pub counts-are : (prefixes : List ℕ) → Built (tables file places lefts rights prefixes area) n → CodesAre file side bytes₀ codes₀ len → CountsAre file side bytes₀ counts₀ len → CountsAre file side s counts (len + k)
+    pub codes-are : (prefixes : List ℕ) → Built (withPrefixes P prefixes) n → CodesAre file side bytes₀ codes₀ len → CountsAre file side bytes₀ counts₀ len → CodesAre file side s codes (len + k)
+    pub counts-are : (prefixes : List ℕ) → Built (withPrefixes P prefixes) n → CodesAre file side bytes₀ codes₀ len → CountsAre file side bytes₀ counts₀ len → CountsAre file side s counts (len + k)
 
-  pub extending-start : ExtendReady file places lefts rights area n len bytes₀ codes₀ counts₀ typed → Extending 0 bytes₀ codes₀ counts₀
+  pub extending-start : ExtendReady P n len bytes₀ codes₀ counts₀ typed → Extending 0 bytes₀ codes₀ counts₀
   extending-start R =
       let z : len + 0 ≡ len = omega arith in
       let l : length (take len bytes₀) ≡ len = length-take-le len bytes₀ (omega (arith, R .bytes-size, R .room)) in
@@ -104,7 +108,7 @@ module _ (file places lefts rights area : List ℕ) (side : Side) (n len : ℕ) 
       }
 
   module _ (k : ℕ) (bytes codes counts : List ℕ) (E : Extending k bytes codes counts) where
-    pub extending-end : length typed ≤ k → ExtendedBy file places lefts rights area side n len bytes₀ codes₀ counts₀ typed bytes codes counts
+    pub extending-end : length typed ≤ k → ExtendedBy P side n len bytes₀ codes₀ counts₀ typed bytes codes counts
     extending-end h = record {
       bytes-kept = E .bytes-kept;
       codes-kept = E .codes-kept;
@@ -114,7 +118,7 @@ module _ (file places lefts rights area : List ℕ) (side : Side) (n len : ℕ) 
     }
 
     module _ (h : k < length typed) where
-      pub extending-ready : PushReady file places lefts rights area n (len + k) bytes codes counts
+      pub extending-ready : PushReady P n (len + k) bytes codes counts
       extending-ready = record {
         in-form = E .in-form;
         place = omega (arith, E .room);
@@ -126,7 +130,7 @@ module _ (file places lefts rights area : List ℕ) (side : Side) (n len : ℕ) 
       }
 
       module _ (bytes' codes' counts' : List ℕ)
-          (P : Pushed file places lefts rights area side n (len + k) (getD typed k 0) bytes codes counts bytes' codes' counts') where
+          (Q : Pushed P side n (len + k) (getD typed k 0) bytes codes counts bytes' codes' counts') where
         abbrev i : ℕ
         i = len + k
 
@@ -155,7 +159,7 @@ module _ (file places lefts rights area : List ℕ) (side : Side) (n len : ℕ) 
         same =
             let a : length (take (suc i) (set bytes i byte)) ≡ suc i = length-take-le (suc i) (set bytes i byte) (omega (arith, length-set bytes i byte, E .bytes-size, i-small)) in
             let b : length (take (suc i) s) ≡ suc i = length-take-le (suc i) s (omega (arith, length-append (take len bytes₀) typed, front)) in
-            ap (take (suc i)) (P .bytes-are)
+            ap (take (suc i)) (Q .bytes-are)
             ∙ ext-getD 0 (take (suc i) (set bytes i byte)) (take (suc i) s) (a ∙ sym b)
             (λ j l. getD-take (suc i) (set bytes i byte) j 0 (omega arith) ∙ bytes-same j (omega arith) ∙ sym (getD-take (suc i) s j 0 (omega arith)))
 
@@ -180,29 +184,29 @@ module _ (file places lefts rights area : List ℕ) (side : Side) (n len : ℕ) 
           room = E .room;
           start-size = E .start-size;
           within = omega arith;
-          bytes-size = rw (P .bytes-are) (length-set bytes i byte ∙ E .bytes-size);
-          codes-size = ap length (P .codes-are) ∙ length-set codes i (P .code) ∙ E .codes-size;
-          counts-size = ap length (P .counts-are) ∙ length-set counts i (P .count) ∙ E .counts-size;
-          rows = rw (P .codes-are) (at-set (λ j c. c < n) codes i (P .code) (len + (k + 1)) codes-fit more (E .rows) (P .row));
-          small = rw (P .counts-are) (at-set (λ j c. c ≤ suc j) counts i (P .count) (len + (k + 1)) counts-fit more (E .small) (P .small));
-          bytes-kept = λ j l. rw (P .bytes-are) (getD-set-other bytes i j byte 0 (λ y. omega arith) ∙ E .bytes-kept j l);
-          codes-kept = λ j l. rw (P .codes-are) (getD-set-other codes i j (P .code) 0 (λ y. omega arith) ∙ E .codes-kept j l);
-          counts-kept = λ j l. rw (P .counts-are) (getD-set-other counts i j (P .count) 0 (λ y. omega arith) ∙ E .counts-kept j l);
-          bytes-are = λ m l. rw (P .bytes-are) (⊎-elim
+          bytes-size = rw (Q .bytes-are) (length-set bytes i byte ∙ E .bytes-size);
+          codes-size = ap length (Q .codes-are) ∙ length-set codes i (Q .code) ∙ E .codes-size;
+          counts-size = ap length (Q .counts-are) ∙ length-set counts i (Q .count) ∙ E .counts-size;
+          rows = rw (Q .codes-are) (at-set (λ j c. c < n) codes i (Q .code) (len + (k + 1)) codes-fit more (E .rows) (Q .row));
+          small = rw (Q .counts-are) (at-set (λ j c. c ≤ suc j) counts i (Q .count) (len + (k + 1)) counts-fit more (E .small) (Q .small));
+          bytes-kept = λ j l. rw (Q .bytes-are) (getD-set-other bytes i j byte 0 (λ y. omega arith) ∙ E .bytes-kept j l);
+          codes-kept = λ j l. rw (Q .codes-are) (getD-set-other codes i j (Q .code) 0 (λ y. omega arith) ∙ E .codes-kept j l);
+          counts-kept = λ j l. rw (Q .counts-are) (getD-set-other counts i j (Q .count) 0 (λ y. omega arith) ∙ E .counts-kept j l);
+          bytes-are = λ m l. rw (Q .bytes-are) (⊎-elim
               (λ e. let y : m ≡ k = omega arith in rw y (getD-set-same bytes i byte 0 (omega (arith, E .bytes-size, i-small))))
               (λ b. getD-set-other bytes i (len + m) byte 0 (λ y. omega arith) ∙ E .bytes-are m (omega arith))
               (eq-or-lt-of-le l));
           codes-are = λ prefixes B c d.
-              rw (P .codes-are)
-              (at-set (λ j x. x ≡ codeAt D side s j) codes i (P .code) (len + (k + 1)) codes-fit more (E .codes-are prefixes B c d) (P .code-is prefixes B (codes-before prefixes B c d) ∙ code-same i (omega arith)));
+              rw (Q .codes-are)
+              (at-set (λ j x. x ≡ codeAt D side s j) codes i (Q .code) (len + (k + 1)) codes-fit more (E .codes-are prefixes B c d) (Q .code-is prefixes B (codes-before prefixes B c d) ∙ code-same i (omega arith)));
           counts-are = λ prefixes B c d.
-              rw (P .counts-are)
-              (at-set (λ j x. x ≡ countAt D side s j) counts i (P .count) (len + (k + 1)) counts-fit more (E .counts-are prefixes B c d)
-              (P .count-is prefixes B (codes-before prefixes B c d) (counts-before prefixes B c d) ∙ count-same i (omega arith)));
+              rw (Q .counts-are)
+              (at-set (λ j x. x ≡ countAt D side s j) counts i (Q .count) (len + (k + 1)) counts-fit more (E .counts-are prefixes B c d)
+              (Q .count-is prefixes B (codes-before prefixes B c d) (counts-before prefixes B c d) ∙ count-same i (omega arith)));
         }
           where
-            codes-before : (prefixes : List ℕ) → Built (tables file places lefts rights prefixes area) n → CodesAre file side bytes₀ codes₀ len → CountsAre file side bytes₀ counts₀ len → CodesAre file side bytes' codes i
+            codes-before : (prefixes : List ℕ) → Built (withPrefixes P prefixes) n → CodesAre file side bytes₀ codes₀ len → CountsAre file side bytes₀ counts₀ len → CodesAre file side bytes' codes i
             codes-before prefixes B c d j l = E .codes-are prefixes B c d j l ∙ sym (code-same j (omega arith))
 
-            counts-before : (prefixes : List ℕ) → Built (tables file places lefts rights prefixes area) n → CodesAre file side bytes₀ codes₀ len → CountsAre file side bytes₀ counts₀ len → CountsAre file side bytes' counts i
+            counts-before : (prefixes : List ℕ) → Built (withPrefixes P prefixes) n → CodesAre file side bytes₀ codes₀ len → CountsAre file side bytes₀ counts₀ len → CountsAre file side bytes' counts i
             counts-before prefixes B c d j l = E .counts-are prefixes B c d j l ∙ sym (count-same j (omega arith))

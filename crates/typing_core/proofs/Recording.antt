@@ -13,7 +13,7 @@ use borrow.Author.Tests.{lt-ltb, le-ltb, lt-leb, ne-eqb, eq-eqb, eqb-true}
 use Rattle.theory.specs.Dictionary.{Dictionary}
 use Rattle.theory.specs.Typing.{Side, passesBeside, inForm}
 use Rattle.theory.proofs.Lists.{true-false, lt-or-ge}
-use Rattle.tables.specs.Tables.{tables}
+use Rattle.tables.specs.Tables.{PairTables, withPrefixes}
 use Rattle.tables.specs.InForm.{allBelow}
 use Rattle.tables.proofs.Sweeps.{all-more, all-done, all-fails}
 use Rattle.built.specs.Built.{dictionaryOf, Built}
@@ -65,12 +65,14 @@ module _ (D : Dictionary) (side : Side) (bytes codes counts : List ℕ) (i : ℕ
   tests = ⊎-elim longer (λ l. ⊎-elim whole shorter (eq-or-lt-of-le l)) (lt-or-ge (suc i) size)
 
 -- what the tests of record i need
-module _ (file places lefts rights area : List ℕ) (n : ℕ) (bytes reading codes counts : List ℕ) (i : ℕ)
-    (R : RecordReady file places lefts rights area n bytes reading codes counts i) (h : getD codes i 0 < n) where
+module _ (P : PairTables) (n : ℕ) (bytes reading codes counts : List ℕ) (i : ℕ)
+    (R : RecordReady P n bytes reading codes counts i) (h : getD codes i 0 < n) where
+  open PairTables P using (file, places)
+
   pub record-ends-ready : EndsReady file places n bytes reading i (getD codes i 0)
   record-ends-ready = record { places-ready = R .ready .in-form .places-ready; row = h; mirrored = R .ready .mirrored }
 
-  pub record-follows-ready : FollowsReady file places lefts rights area n codes i (getD codes i 0)
+  pub record-follows-ready : FollowsReady P n codes i (getD codes i 0)
   record-follows-ready = record {
     in-form = R .ready .in-form;
     before = record { room = omega (arith, R .ready .codes-size, R .ready .mirrored .fits); rows = R .rows };
@@ -86,8 +88,10 @@ module _ (file places lefts rights area : List ℕ) (n : ℕ) (bytes reading cod
     row = h;
   }
 
-module _ (file places lefts rights area : List ℕ) (side : Side) (n : ℕ) (bytes reading codes counts : List ℕ) (i : ℕ)
-    (R : RecordReady file places lefts rights area n bytes reading codes counts i) where
+module _ (P : PairTables) (side : Side) (n : ℕ) (bytes reading codes counts : List ℕ) (i : ℕ)
+    (R : RecordReady P n bytes reading codes counts i) where
+  open PairTables P using (file, places)
+
   abbrev D' : Dictionary
   D' = dictionaryOf file
 
@@ -98,9 +102,9 @@ module _ (file places lefts rights area : List ℕ) (side : Side) (n : ℕ) (byt
   counted = row-count file places n (R .ready .in-form .places-ready)
 
   -- a record that fails a test
-  fails : ((prefixes : List ℕ) → Built (tables file places lefts rights prefixes area) n
+  fails : ((prefixes : List ℕ) → Built (withPrefixes P prefixes) n
       → false ≡ ltb c' (D' .count) && (endsBytes D' side bytes i c' && (followsCode D' side codes i c' && eqb (getD counts i 0) (countWith D' counts i c'))))
-      → RecordIs file places lefts rights area side n bytes codes counts i false
+      → RecordIs P side n bytes codes counts i false
   fails f = record {
     row = λ e. absurd (true-false (sym e));
     small = λ e. absurd (true-false (sym e));
@@ -108,7 +112,7 @@ module _ (file places lefts rights area : List ℕ) (side : Side) (n : ℕ) (byt
   }
 
   -- its code is no row
-  pub record-unknown : (x : ℕ) → x ≡ c' → n ≤ x → RecordIs file places lefts rights area side n bytes codes counts i false
+  pub record-unknown : (x : ℕ) → x ≡ c' → n ≤ x → RecordIs P side n bytes codes counts i false
   record-unknown x e h = fails (λ prefixes B. rw (le-ltb c' (D' .count) (omega (arith, counted))))
 
   module _ (h : c' < n) where
@@ -116,38 +120,40 @@ module _ (file places lefts rights area : List ℕ) (side : Side) (n : ℕ) (byt
     known = lt-ltb c' (D' .count) (omega (arith, counted))
 
     -- its row does not end the bytes
-    pub record-other : endsBytes D' side bytes i c' ≡ false → RecordIs file places lefts rights area side n bytes codes counts i false
+    pub record-other : endsBytes D' side bytes i c' ≡ false → RecordIs P side n bytes codes counts i false
     record-other e = fails (λ prefixes B. rw (known, e))
 
     module _ (ends : endsBytes D' side bytes i c' ≡ true) where
       -- its row does not follow the code before it
-      pub record-apart : FollowsIs file places lefts rights area side n codes i c' false → RecordIs file places lefts rights area side n bytes codes counts i false
+      pub record-apart : FollowsIs P side n codes i c' false → RecordIs P side n bytes codes counts i false
       record-apart F = fails (λ prefixes B. rw (known, ends, ← F .built prefixes B))
 
       -- the count decides
-      pub record-counted : FollowsIs file places lefts rights area side n codes i c' true → (k : ℕ) → CountIs file counts i c' k
-          → RecordIs file places lefts rights area side n bytes codes counts i (eqb (getD counts i 0) k)
+      pub record-counted : FollowsIs P side n codes i c' true → (k : ℕ) → CountIs file counts i c' k
+          → RecordIs P side n bytes codes counts i (eqb (getD counts i 0) k)
       record-counted F k C = record {
         row = λ _. h;
         small = λ e. let z = eqb-true (getD counts i 0) k e in omega (arith, C .small);
         built = λ prefixes B. rw (tests D' side bytes codes counts i, known, ends, ← F .built prefixes B, C .is);
       }
 
-module _ (file places lefts rights area : List ℕ) (side : Side) (n : ℕ) (bytes reading codes counts : List ℕ) (len : ℕ) where
+module _ (P : PairTables) (side : Side) (n : ℕ) (bytes reading codes counts : List ℕ) (len : ℕ) where
+  open PairTables P using (file)
+
   -- the records below i are in form
   pub record Recorded (i : ℕ) : Type 0 where
-    pub ready : RecordsReady file places lefts rights area n bytes reading codes counts len
+    pub ready : RecordsReady P n bytes reading codes counts len
     pub within : i ≤ len
     pub rows : RowsTo n codes i
     pub small : CountsTo counts i
-    pub built : (prefixes : List ℕ) → Built (tables file places lefts rights prefixes area) n → allBelow i (inForm (dictionaryOf file) side bytes codes counts) ≡ true
+    pub built : (prefixes : List ℕ) → Built (withPrefixes P prefixes) n → allBelow i (inForm (dictionaryOf file) side bytes codes counts) ≡ true
 
-  pub records-start : RecordsReady file places lefts rights area n bytes reading codes counts len → Recorded 0
+  pub records-start : RecordsReady P n bytes reading codes counts len → Recorded 0
   unfolding allBelow
   records-start R = record { ready = R; within = omega arith; rows = λ j h. absurd (omega arith); small = λ j h. absurd (omega arith); built = λ prefixes B. refl }
 
   module _ (i : ℕ) (S : Recorded i) where
-    pub records-end : len ≤ i → RecordsAre file places lefts rights area side n bytes codes counts len true
+    pub records-end : len ≤ i → RecordsAre P side n bytes codes counts len true
     records-end h = record {
       none-yet = λ _. refl;
       rows = λ _ j l. S .rows j (omega arith);
@@ -156,7 +162,7 @@ module _ (file places lefts rights area : List ℕ) (side : Side) (n : ℕ) (byt
     }
 
     module _ (h : i < len) where
-      pub records-ready : RecordReady file places lefts rights area n bytes reading codes counts i
+      pub records-ready : RecordReady P n bytes reading codes counts i
       records-ready = record {
         ready = record {
           in-form = S .ready .in-form;
@@ -173,7 +179,7 @@ module _ (file places lefts rights area : List ℕ) (side : Side) (n : ℕ) (byt
         small = S .small;
       }
 
-      pub records-fail : RecordIs file places lefts rights area side n bytes codes counts i false → RecordsAre file places lefts rights area side n bytes codes counts len false
+      pub records-fail : RecordIs P side n bytes codes counts i false → RecordsAre P side n bytes codes counts len false
       records-fail F = record {
         none-yet = λ e. absurd (omega arith);
         rows = λ e. absurd (true-false (sym e));
@@ -181,7 +187,7 @@ module _ (file places lefts rights area : List ℕ) (side : Side) (n : ℕ) (byt
         built = λ prefixes B. all-fails (inForm (dictionaryOf file) side bytes codes counts) len i h (sym (F .built prefixes B));
       }
 
-      pub records-more : RecordIs file places lefts rights area side n bytes codes counts i true → Recorded (i + 1)
+      pub records-more : RecordIs P side n bytes codes counts i true → Recorded (i + 1)
       records-more F = record {
         ready = S .ready;
         within = omega arith;

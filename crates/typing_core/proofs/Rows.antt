@@ -7,7 +7,7 @@ use lib.ListN.{length}
 use Rattle.phrase_file.specs.Form.{rows}
 use Rattle.placed_rows.specs.Rows.{row}
 use Rattle.theory.specs.Parts.{dictionary}
-use Rattle.tables.specs.Tables.{Tables}
+use Rattle.tables.specs.Tables.{Tables, PairTables, pairTables, withoutPrefixes}
 use Rattle.tables.specs.Ready.{PlacesReady, Ready}
 use Rattle.token_pair.specs.Pair.{PairReady}
 use Rattle.built.specs.Built.{dictionaryOf}
@@ -17,36 +17,36 @@ use Rattle.typing_core.specs.Steps.{PairOf}
 
 pub row-count : (file places : List ℕ) (n : ℕ) → PlacesReady file places n → dictionaryOf file .count ≡ n
 unfolding dictionaryOf dictionary
-row-count file places n P = sym (P .count)
+row-count file places n Q = sym (Q .count)
 
 -- bytes read of a row by a number x, which is the row
 pub row-read : (file places : List ℕ) (n c x : ℕ) (t : List ℕ) → PlacesReady file places n → c < n → x ≡ c → t ≡ row file places n x → t ≡ dictionaryOf file .bytes c
 unfolding dictionaryOf dictionary
-row-read file places n c x t P h e f =
-    let k = P .count in
-    f ∙ ap (row file places n) e ∙ P .rows-are c h ∙ any-default (rows file) c [] ((c - length (rows file)) ∷ []) (omega arith)
+row-read file places n c x t Q h e f =
+    let k = Q .count in
+    f ∙ ap (row file places n) e ∙ Q .rows-are c h ∙ any-default (rows file) c [] ((c - length (rows file)) ∷ []) (omega arith)
 
-pub parts-in-form : (T : Tables) (n : ℕ) → Ready T n → PartsInForm (T .file) (T .places) (T .lefts) (T .rights) (T .area) n
+pub parts-in-form : (T : Tables) (n : ℕ) → Ready T n → PartsInForm (withoutPrefixes T) n
 parts-in-form T n R = record { places-ready = R .places-ready; parts-ready = R .parts-ready; area-room = R .area-room }
 
 -- two rows may be checked in either order
-module _ (file places lefts rights area : List ℕ) (n before c : ℕ) (P : PairOf file places lefts rights area n before c) where
-  pub pair-behind : PairReady file places lefts rights area n n before c
+module _ (P : PairTables) (n before c : ℕ) (Q : PairOf P n before c) where
+  pub pair-behind : PairReady P n n before c
   pair-behind = record {
-    places-ready = P .in-form .places-ready;
-    parts-ready = P .in-form .parts-ready;
-    area-room = P .in-form .area-room;
+    places-ready = Q .in-form .places-ready;
+    parts-ready = Q .in-form .parts-ready;
+    area-room = Q .in-form .area-room;
     few = omega arith;
-    left-below = P .before-row;
-    right-below = P .row;
+    left-below = Q .before-row;
+    right-below = Q .row;
   }
 
-  pub pair-ahead : PairReady file places lefts rights area n n c before
+  pub pair-ahead : PairReady P n n c before
   pair-ahead = record {
-    places-ready = P .in-form .places-ready;
-    parts-ready = P .in-form .parts-ready;
-    area-room = P .in-form .area-room;
+    places-ready = Q .in-form .places-ready;
+    parts-ready = Q .in-form .parts-ready;
+    area-room = Q .in-form .area-room;
     few = omega arith;
-    left-below = P .row;
-    right-below = P .before-row;
+    left-below = Q .row;
+    right-below = Q .before-row;
   }

@@ -8,7 +8,7 @@ use lib.Dec.{ltb, leb, eqb}
 use Rattle.theory.specs.Dictionary.{Dictionary}
 use Rattle.theory.specs.Lists.{equal}
 use Rattle.theory.specs.Typing as Typing
-use Rattle.tables.specs.Tables.{Tables, tables}
+use Rattle.tables.specs.Tables.{Tables, PairTables, withPrefixes}
 use Rattle.tables.specs.declared.Form.{Form}
 use Rattle.tables.specs.declared.Form.the-variants.{Rows, Out}
 use Rattle.tables.specs.InForm.{formOf, allBelow}
@@ -64,24 +64,24 @@ pub record EndsReady (file places : List ℕ) (n : ℕ) (bytes reading : List �
   pub mirrored : Mirrored bytes reading (suc i)
 
 -- two rows that may be checked
-pub record PairOf (file places lefts rights area : List ℕ) (n before c : ℕ) : Type 0 where
-  pub in-form : PartsInForm file places lefts rights area n
+pub record PairOf (P : PairTables) (n before c : ℕ) : Type 0 where
+  pub in-form : PartsInForm P n
   pub before-row : before < n
   pub row : c < n
 
 -- whether row c passes beside the code typed before it
-pub record BesideIs (file places lefts rights area : List ℕ) (side : Typing.Side) (n before c : ℕ) (r : Bool) : Type 0 where
-  pub built : (prefixes : List ℕ) → Built (tables file places lefts rights prefixes area) n → r ≡ Typing.passesBeside (dictionaryOf file) side before c
+pub record BesideIs (P : PairTables) (side : Typing.Side) (n before c : ℕ) (r : Bool) : Type 0 where
+  pub built : (prefixes : List ℕ) → Built (withPrefixes P prefixes) n → r ≡ Typing.passesBeside (dictionaryOf (P .file)) side before c
 
 -- row c at place i behind rows
-pub record FollowsReady (file places lefts rights area : List ℕ) (n : ℕ) (codes : List ℕ) (i c : ℕ) : Type 0 where
-  pub in-form : PartsInForm file places lefts rights area n
+pub record FollowsReady (P : PairTables) (n : ℕ) (codes : List ℕ) (i c : ℕ) : Type 0 where
+  pub in-form : PartsInForm P n
   pub before : FrontRows n codes i
   pub row : c < n
 
 -- whether row c follows
-pub record FollowsIs (file places lefts rights area : List ℕ) (side : Typing.Side) (n : ℕ) (codes : List ℕ) (i c : ℕ) (r : Bool) : Type 0 where
-  pub built : (prefixes : List ℕ) → Built (tables file places lefts rights prefixes area) n → r ≡ followsCode (dictionaryOf file) side codes i c
+pub record FollowsIs (P : PairTables) (side : Typing.Side) (n : ℕ) (codes : List ℕ) (i c : ℕ) (r : Bool) : Type 0 where
+  pub built : (prefixes : List ℕ) → Built (withPrefixes P prefixes) n → r ≡ followsCode (dictionaryOf (P .file)) side codes i c
 
 -- row c at place i behind small counts
 pub record CountReady (file places : List ℕ) (n : ℕ) (counts : List ℕ) (i c : ℕ) : Type 0 where
@@ -97,41 +97,41 @@ pub record CountIs (file counts : List ℕ) (i c r : ℕ) : Type 0 where
   pub small : r ≤ suc i
 
 -- what the records below m need to be read
-pub record RecordsReady (file places lefts rights area : List ℕ) (n : ℕ) (bytes reading codes counts : List ℕ) (m : ℕ) : Type 0 where
-  pub in-form : PartsInForm file places lefts rights area n
+pub record RecordsReady (P : PairTables) (n : ℕ) (bytes reading codes counts : List ℕ) (m : ℕ) : Type 0 where
+  pub in-form : PartsInForm P n
   pub mirrored : Mirrored bytes reading m
   pub codes-size : length codes ≡ 4096
   pub counts-size : length counts ≡ 4096
 
 -- what record i needs besides, behind records in form
-pub record RecordReady (file places lefts rights area : List ℕ) (n : ℕ) (bytes reading codes counts : List ℕ) (i : ℕ) : Type 0 where
-  pub ready : RecordsReady file places lefts rights area n bytes reading codes counts (suc i)
+pub record RecordReady (P : PairTables) (n : ℕ) (bytes reading codes counts : List ℕ) (i : ℕ) : Type 0 where
+  pub ready : RecordsReady P n bytes reading codes counts (suc i)
   pub rows : RowsTo n codes i
   pub small : CountsTo counts i
 
 -- whether record i is in form; if so its code is a row and its count is small
-pub record RecordIs (file places lefts rights area : List ℕ) (side : Typing.Side) (n : ℕ) (bytes codes counts : List ℕ) (i : ℕ) (r : Bool) : Type 0 where
+pub record RecordIs (P : PairTables) (side : Typing.Side) (n : ℕ) (bytes codes counts : List ℕ) (i : ℕ) (r : Bool) : Type 0 where
   pub row : r ≡ true → getD codes i 0 < n
   pub small : r ≡ true → getD counts i 0 ≤ suc i
-  pub built : (prefixes : List ℕ) → Built (tables file places lefts rights prefixes area) n → r ≡ Typing.inForm (dictionaryOf file) side bytes codes counts i
+  pub built : (prefixes : List ℕ) → Built (withPrefixes P prefixes) n → r ≡ Typing.inForm (dictionaryOf (P .file)) side bytes codes counts i
 
 -- whether the records below len are in form; if so their codes are rows and their counts are small
-pub record RecordsAre (file places lefts rights area : List ℕ) (side : Typing.Side) (n : ℕ) (bytes codes counts : List ℕ) (len : ℕ) (r : Bool) : Type 0 where
+pub record RecordsAre (P : PairTables) (side : Typing.Side) (n : ℕ) (bytes codes counts : List ℕ) (len : ℕ) (r : Bool) : Type 0 where
   pub none-yet : len ≡ 0 → r ≡ true
   pub rows : r ≡ true → RowsTo n codes len
   pub small : r ≡ true → CountsTo counts len
-  pub built : (prefixes : List ℕ) → Built (tables file places lefts rights prefixes area) n → r ≡ allBelow len (Typing.inForm (dictionaryOf file) side bytes codes counts)
+  pub built : (prefixes : List ℕ) → Built (withPrefixes P prefixes) n → r ≡ allBelow len (Typing.inForm (dictionaryOf (P .file)) side bytes codes counts)
 
 -- a row; behind true codes the code of record i, and behind true counts its count goes with it
-pub record CodeIs (file places lefts rights area : List ℕ) (side : Typing.Side) (n : ℕ) (bytes : List ℕ) (i : ℕ) (codes : List ℕ) (r : ℕ) : Type 0 where
+pub record CodeIs (P : PairTables) (side : Typing.Side) (n : ℕ) (bytes : List ℕ) (i : ℕ) (codes : List ℕ) (r : ℕ) : Type 0 where
   pub row : r < n
-  pub code : (prefixes : List ℕ) → Built (tables file places lefts rights prefixes area) n → CodesAre file side bytes codes i → r ≡ Typing.codeAt (dictionaryOf file) side bytes i
-  pub count : (prefixes : List ℕ) → Built (tables file places lefts rights prefixes area) n → CodesAre file side bytes codes i → (counts : List ℕ) → CountsAre file side bytes counts i
-      → countWith (dictionaryOf file) counts i r ≡ Typing.countAt (dictionaryOf file) side bytes i
+  pub code : (prefixes : List ℕ) → Built (withPrefixes P prefixes) n → CodesAre (P .file) side bytes codes i → r ≡ Typing.codeAt (dictionaryOf (P .file)) side bytes i
+  pub count : (prefixes : List ℕ) → Built (withPrefixes P prefixes) n → CodesAre (P .file) side bytes codes i → (counts : List ℕ) → CountsAre (P .file) side bytes counts i
+      → countWith (dictionaryOf (P .file)) counts i r ≡ Typing.countAt (dictionaryOf (P .file)) side bytes i
 
 -- what one byte more at place i needs
-pub record PushReady (file places lefts rights area : List ℕ) (n i : ℕ) (bytes codes counts : List ℕ) : Type 0 where
-  pub in-form : PartsInForm file places lefts rights area n
+pub record PushReady (P : PairTables) (n i : ℕ) (bytes codes counts : List ℕ) : Type 0 where
+  pub in-form : PartsInForm P n
   pub place : i < 4096
   pub bytes-size : length bytes ≡ 4096
   pub codes-size : length codes ≡ 4096
@@ -140,7 +140,7 @@ pub record PushReady (file places lefts rights area : List ℕ) (n i : ℕ) (byt
   pub small : CountsTo counts i
 
 -- one byte more at place i: nothing but record i is written; behind true records it is the true one
-pub record Pushed (file places lefts rights area : List ℕ) (side : Typing.Side) (n i byte : ℕ) (bytes codes counts bytes' codes' counts' : List ℕ) : Type 0 where
+pub record Pushed (P : PairTables) (side : Typing.Side) (n i byte : ℕ) (bytes codes counts bytes' codes' counts' : List ℕ) : Type 0 where
   pub code : ℕ
   pub count : ℕ
   pub row : code < n
@@ -148,13 +148,13 @@ pub record Pushed (file places lefts rights area : List ℕ) (side : Typing.Side
   pub bytes-are : bytes' ≡ set bytes i byte
   pub codes-are : codes' ≡ set codes i code
   pub counts-are : counts' ≡ set counts i count
-  pub code-is : (prefixes : List ℕ) → Built (tables file places lefts rights prefixes area) n → CodesAre file side bytes' codes i → code ≡ Typing.codeAt (dictionaryOf file) side bytes' i
-  pub count-is : (prefixes : List ℕ) → Built (tables file places lefts rights prefixes area) n → CodesAre file side bytes' codes i → CountsAre file side bytes' counts i
-      → count ≡ Typing.countAt (dictionaryOf file) side bytes' i
+  pub code-is : (prefixes : List ℕ) → Built (withPrefixes P prefixes) n → CodesAre (P .file) side bytes' codes i → code ≡ Typing.codeAt (dictionaryOf (P .file)) side bytes' i
+  pub count-is : (prefixes : List ℕ) → Built (withPrefixes P prefixes) n → CodesAre (P .file) side bytes' codes i → CountsAre (P .file) side bytes' counts i
+      → count ≡ Typing.countAt (dictionaryOf (P .file)) side bytes' i
 
 -- what the bytes typed behind the first len need
-pub record ExtendReady (file places lefts rights area : List ℕ) (n len : ℕ) (bytes codes counts typed : List ℕ) : Type 0 where
-  pub in-form : PartsInForm file places lefts rights area n
+pub record ExtendReady (P : PairTables) (n len : ℕ) (bytes codes counts typed : List ℕ) : Type 0 where
+  pub in-form : PartsInForm P n
   pub room : len + length typed ≤ 4096
   pub bytes-size : length bytes ≡ 4096
   pub codes-size : length codes ≡ 4096
@@ -163,14 +163,14 @@ pub record ExtendReady (file places lefts rights area : List ℕ) (n len : ℕ) 
   pub small : CountsTo counts len
 
 -- the records of the bytes typed stand behind the first len, which are as before; behind true records they are the true ones
-pub record ExtendedBy (file places lefts rights area : List ℕ) (side : Typing.Side) (n len : ℕ)
+pub record ExtendedBy (P : PairTables) (side : Typing.Side) (n len : ℕ)
     (bytes codes counts typed bytes' codes' counts' : List ℕ) : Type 0 where
   pub bytes-kept : (j : ℕ) → j < len → getD bytes' j 0 ≡ getD bytes j 0
   pub codes-kept : (j : ℕ) → j < len → getD codes' j 0 ≡ getD codes j 0
   pub counts-kept : (j : ℕ) → j < len → getD counts' j 0 ≡ getD counts j 0
   pub bytes-are : (k : ℕ) → k < length typed → getD bytes' (len + k) 0 ≡ getD typed k 0
-  pub built : (prefixes : List ℕ) → Built (tables file places lefts rights prefixes area) n → CodesAre file side bytes codes len → CountsAre file side bytes counts len
-      → CodesAre file side (take len bytes ++ typed) codes' (len + length typed) × CountsAre file side (take len bytes ++ typed) counts' (len + length typed)
+  pub built : (prefixes : List ℕ) → Built (withPrefixes P prefixes) n → CodesAre (P .file) side bytes codes len → CountsAre (P .file) side bytes counts len
+      → CodesAre (P .file) side (take len bytes ++ typed) codes' (len + length typed) × CountsAre (P .file) side (take len bytes ++ typed) counts' (len + length typed)
 
 -- records that passed the checks: over tables that a build left they are the true ones
 pub record PassedTo (T : Tables) (side : Typing.Side) (n len : ℕ) (bytes reading codes counts : List ℕ) : Type 0 where

@@ -8,7 +8,7 @@ ghost use Rattle.end_code.specs.Codes.{CodeReady};
 ghost use Rattle.typing_core.specs.Sides.{sideOf, sideNumbered};
 ghost use Rattle.typing_core.specs.Columns.{ExtendedColumns, CountedColumns};
 ghost use Rattle.typing_core.specs.Steps.{FillReady, Mirrored, Sizes, endsBytes, EndsReady, PairOf, BesideIs, FollowsReady, FollowsIs, CountReady, CountIs, RecordsReady, RecordReady, RecordIs, RecordsAre, CodeIs, PushReady, Pushed, ExtendReady, ExtendedBy, Checked};
-ghost use Rattle.tables.specs.Tables.{lent, before, after};
+ghost use Rattle.tables.specs.Tables.{lent, pairGiven, pairLent, before, after};
 use causes::Cause;
 use end_code::end_code_at;
 use placed_rows::wide;
@@ -92,9 +92,8 @@ fn passes_beside(
     before: u32,
     code: u32,
 ) -> bool
-    requires { ⌜ PairOf (now file) (now places) (now lefts) (now rights) (now area) n before code ⌝ }
-    ensures { λ r. ⌜ BesideIs (now (file .entry)) (now (places .entry)) (now (lefts .entry)) (now (rights .entry))
-        (now (area .entry)) (sideOf side) n before code r ⌝ }
+    requires { ⌜ PairOf (pairGiven file places lefts rights area) n before code ⌝ }
+    ensures { λ r. ⌜ BesideIs (pairLent file places lefts rights area) (sideOf side) n before code r ⌝ }
 {
     let limit = n as u32;
     match side {
@@ -120,9 +119,8 @@ fn follows(
     i: usize,
     code: u32,
 ) -> bool
-    requires { ⌜ FollowsReady (now file) (now places) (now lefts) (now rights) (now area) n (now codes) i code ⌝ }
-    ensures { λ r. ⌜ FollowsIs (now (file .entry)) (now (places .entry)) (now (lefts .entry)) (now (rights .entry))
-        (now (area .entry)) (sideOf side) n (now (codes .entry)) i code r ⌝ }
+    requires { ⌜ FollowsReady (pairGiven file places lefts rights area) n (now codes) i code ⌝ }
+    ensures { λ r. ⌜ FollowsIs (pairLent file places lefts rights area) (sideOf side) n (before codes) i code r ⌝ }
 {
     let len = row_len(file, places, n, code);
     if i < len {
@@ -159,10 +157,10 @@ fn record_in_form(
     counts: &[u32],
     i: usize,
 ) -> bool
-    requires { ⌜ RecordReady (now file) (now places) (now lefts) (now rights) (now area) n (now bytes) (now reading)
-        (now codes) (now counts) i ⌝ }
-    ensures { λ r. ⌜ RecordIs (now (file .entry)) (now (places .entry)) (now (lefts .entry)) (now (rights .entry))
-        (now (area .entry)) (sideOf side) n (now (bytes .entry)) (now (codes .entry)) (now (counts .entry)) i r ⌝ }
+    requires { ⌜ RecordReady (pairGiven file places lefts rights area) n (now bytes) (now reading) (now codes)
+        (now counts) i ⌝ }
+    ensures { λ r. ⌜ RecordIs (pairLent file places lefts rights area) (sideOf side) n (before bytes) (before codes)
+        (before counts) i r ⌝ }
 {
     let code = codes[i];
     if n <= wide(code) {
@@ -192,10 +190,10 @@ pub fn records_in_form(
     counts: &[u32],
     len: usize,
 ) -> bool
-    requires { ⌜ RecordsReady (now file) (now places) (now lefts) (now rights) (now area) n (now bytes)
-        (now reading) (now codes) (now counts) len ⌝ }
-    ensures { λ r. ⌜ RecordsAre (now (file .entry)) (now (places .entry)) (now (lefts .entry)) (now (rights .entry))
-        (now (area .entry)) (sideOf side) n (now (bytes .entry)) (now (codes .entry)) (now (counts .entry)) len r ⌝ }
+    requires { ⌜ RecordsReady (pairGiven file places lefts rights area) n (now bytes) (now reading) (now codes)
+        (now counts) len ⌝ }
+    ensures { λ r. ⌜ RecordsAre (pairLent file places lefts rights area) (sideOf side) n (before bytes)
+        (before codes) (before counts) len r ⌝ }
 {
     let mut i = 0;
     while i < len {
@@ -233,9 +231,9 @@ fn code_at(
     i: usize,
     codes: &[u32],
 ) -> u32
-    requires { ⌜ CodeReady (now file) (now places) (now lefts) (now rights) (now area) n (now bytes) i (now codes) ⌝ }
-    ensures { λ r. ⌜ CodeIs (now (file .entry)) (now (places .entry)) (now (lefts .entry)) (now (rights .entry))
-        (now (area .entry)) (sideOf side) n (now (bytes .entry)) i (now (codes .entry)) r ⌝ }
+    requires { ⌜ CodeReady (pairGiven file places lefts rights area) n (now bytes) i (now codes) ⌝ }
+    ensures { λ r. ⌜ CodeIs (pairLent file places lefts rights area) (sideOf side) n (before bytes) i (before codes)
+        r ⌝ }
 {
     match side {
         Side::Append => { end_code_at(file, places, lefts, rights, area, n, bytes, i, codes, true) }
@@ -260,11 +258,9 @@ pub fn push_core(
     codes: &mut [u32],
     counts: &mut [u32],
 )
-    requires { ⌜ PushReady (now file) (now places) (now lefts) (now rights) (now area) n i (now bytes) (now codes)
-        (now counts) ⌝ }
-    ensures { λ r. ⌜ Pushed (now (file .entry)) (now (places .entry)) (now (lefts .entry)) (now (rights .entry))
-        (now (area .entry)) (sideOf side) n i byte (now (bytes .entry)) (now (codes .entry)) (now (counts .entry))
-        (now (bytes .exit)) (now (codes .exit)) (now (counts .exit)) ⌝ }
+    requires { ⌜ PushReady (pairGiven file places lefts rights area) n i (now bytes) (now codes) (now counts) ⌝ }
+    ensures { λ r. ⌜ Pushed (pairLent file places lefts rights area) (sideOf side) n i byte (before bytes)
+        (before codes) (before counts) (after bytes) (after codes) (after counts) ⌝ }
 {
     bytes[i] = byte;
     let code = code_at(side, file, places, lefts, rights, area, n, bytes, i, codes);
@@ -287,11 +283,10 @@ pub fn extend_core(
     counts: &mut [u32],
     typed: &[u8],
 )
-    requires { ⌜ ExtendReady (now file) (now places) (now lefts) (now rights) (now area) n len (now bytes)
-        (now codes) (now counts) (now typed) ⌝ }
-    ensures { λ r. ⌜ ExtendedBy (now (file .entry)) (now (places .entry)) (now (lefts .entry)) (now (rights .entry))
-        (now (area .entry)) (sideOf side) n len (now (bytes .entry)) (now (codes .entry)) (now (counts .entry))
-        (now (typed .entry)) (now (bytes .exit)) (now (codes .exit)) (now (counts .exit)) ⌝ }
+    requires { ⌜ ExtendReady (pairGiven file places lefts rights area) n len (now bytes) (now codes) (now counts)
+        (now typed) ⌝ }
+    ensures { λ r. ⌜ ExtendedBy (pairLent file places lefts rights area) (sideOf side) n len (before bytes)
+        (before codes) (before counts) (before typed) (after bytes) (after codes) (after counts) ⌝ }
 {
     let mut k = 0;
     while k < typed.len() {

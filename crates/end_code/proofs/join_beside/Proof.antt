@@ -12,13 +12,13 @@ join-before-requires : tie.Need-join-before-requires
 join-before-requires c κs = search needs
 
 returns : tie.Need-returns
-returns c = rw (c .before .if1 .taken) (beside-append _ _ _ _ _ _ _ _ _ _ (c .join-before .ensures))
+returns c = rw (c .before .if1 .taken) (beside-append _ _ _ _ _ _ (c .join-before .ensures))
 
 join-before-requires-2 : tie.Need-join-before-requires-2
 join-before-requires-2 c κs = search needs
 
 returns-2 : tie.Need-returns-2
-returns-2 c = rw (c .before .if1 .left) (beside-prepend _ _ _ _ _ _ _ _ _ _ (c .join-before2 .ensures))
+returns-2 c = rw (c .before .if1 .left) (beside-prepend _ _ _ _ _ _ (c .join-before2 .ensures))
 
 pub join-beside-spec : {M : Type 1} → statement M
 join-beside-spec =

@@ -14,13 +14,13 @@ use Rattle.parts.proofs.right_part.Tie as tie
 -- the row that was tried is no longer than row w
 within : (c : tie.After-length-of) → c .length-of .result ≤ length (c .before .before .bytes-of .result .now)
 within c =
-    inside _ _ _ _ _ _ _ (c .before .before .before .before .before .before .before .before .before .pre .0) _ 0 (c .before .before .before .before .before .before .before .before .before .pre .1) _ _ _ _ (c .before .before .before .wide .ensures .is) (c .before .wide2 .ensures .is) (c .before .before .bytes-of .ensures) (c .length-of .ensures .is)
+    inside _ _ _ (c .before .before .before .before .before .before .before .before .before .pre .0) _ 0 (c .before .before .before .before .before .before .before .before .before .pre .1) _ _ _ _ (c .before .before .before .wide .ensures .is) (c .before .wide2 .ensures .is) (c .before .before .bytes-of .ensures) (c .length-of .ensures .is)
 
 -- what find answers, of the rest of row w
 found : (c : tie.After-find) → Found (c .before .before .before .before .before .before .before .before .before .before .before .args .file .now) (c .before .before .before .before .before .before .before .before .before .before .before .args .places .now) (c .before .before .before .before .before .before .before .before .before .before .before .args .n) (c .before .before .before .before .before .before .before .before .before .before .before .args .area .now)
     (drop (length (bytesOf (rows (c .before .before .before .before .before .before .before .before .before .before .before .args .file .now)) (c .before .before .before .before .before .before .before .before .before .before .before .args .left))) (bytesOf (rows (c .before .before .before .before .before .before .before .before .before .before .before .args .file .now)) (c .before .before .before .before .before .before .before .before .before .before .before .args .w))) (c .find .result)
 found c =
-    found-rest _ _ _ _ _ _ _ (c .before .before .before .before .before .before .before .before .before .before .before .pre .0) _ _ (c .before .before .before .before .before .before .before .before .before .before .before .pre .1) _ _ _ _ (c .before .before .before .before .before .wide .ensures .is) (c .before .before .before .wide2 .ensures .is) (c .before .before .before .before .bytes-of .ensures) (c .before .before .length-of .ensures .is) (c .find .ensures)
+    found-rest _ _ _ (c .before .before .before .before .before .before .before .before .before .before .before .pre .0) _ _ (c .before .before .before .before .before .before .before .before .before .before .before .pre .1) _ _ _ _ (c .before .before .before .before .before .wide .ensures .is) (c .before .before .before .wide2 .ensures .is) (c .before .before .before .before .bytes-of .ensures) (c .before .before .length-of .ensures .is) (c .find .ensures)
 
 wide-requires : tie.Need-wide-requires
 wide-requires c κs = tt
@@ -47,19 +47,19 @@ find-requires : tie.Need-find-requires
 find-requires c κs = let s = c .before .before .before .before .before .before .before .before .before .before in (s .pre .0 .rows-found .places-ready .placed, s .pre .0 .rows-found .area-room)
 
 returns : tie.Need-returns
-returns c = inl (fails-left _ _ _ _ _ _ _ (c .before .before .before .before .before .before .before .before .before .before .before .before .pre .0) _ _ (c .before .before .before .before .before .before .before .before .before .before .before .before .pre .1) (found (c .before)) (omega arith))
+returns c = inl (fails-left _ _ _ (c .before .before .before .before .before .before .before .before .before .before .before .before .pre .0) _ _ (c .before .before .before .before .before .before .before .before .before .before .before .before .pre .1) (found (c .before)) (omega arith))
 
 returns-2 : tie.Need-returns-2
-returns-2 c = inl (fails-right _ _ _ _ _ _ _ (c .before .before .before .before .before .before .before .before .before .before .before .before .before .pre .0) _ _ (c .before .before .before .before .before .before .before .before .before .before .before .before .before .pre .1) (found (c .before .before)) (omega arith))
+returns-2 c = inl (fails-right _ _ _ (c .before .before .before .before .before .before .before .before .before .before .before .before .before .pre .0) _ _ (c .before .before .before .before .before .before .before .before .before .before .before .before .before .pre .1) (found (c .before .before)) (omega arith))
 
 is-valid-pair-below-requires : tie.Need-is-valid-pair-below-requires
-is-valid-pair-below-requires c κs = pair-ready _ _ _ _ _ _ _ (c .before .before .before .before .before .before .before .before .before .before .before .before .before .pre .0) _ _ (c .before .before .before .before .before .before .before .before .before .before .before .before .before .pre .1) (found (c .before .before)) (omega arith) (omega arith)
+is-valid-pair-below-requires c κs = pair-ready _ _ _ (c .before .before .before .before .before .before .before .before .before .before .before .before .before .pre .0) _ _ (c .before .before .before .before .before .before .before .before .before .before .before .before .before .pre .1) (found (c .before .before)) (omega arith) (omega arith)
 
 returns-3 : tie.Need-returns-3
-returns-3 c = inr (passes-check _ _ _ _ _ _ _ (c .before .before .before .before .before .before .before .before .before .before .before .before .before .before .before .pre .0) _ _ (c .before .before .before .before .before .before .before .before .before .before .before .before .before .before .before .pre .1) (found (c .before .before .before .before)) (omega arith) (omega arith) _ (c .before .is-valid-pair-below .ensures) (c .if3 .taken))
+returns-3 c = inr (passes-check _ _ _ (c .before .before .before .before .before .before .before .before .before .before .before .before .before .before .before .pre .0) _ _ (c .before .before .before .before .before .before .before .before .before .before .before .before .before .before .before .pre .1) (found (c .before .before .before .before)) (omega arith) (omega arith) _ (c .before .is-valid-pair-below .ensures) (c .if3 .taken))
 
 returns-4 : tie.Need-returns-4
-returns-4 c = inl (fails-check _ _ _ _ _ _ _ (c .before .before .before .before .before .before .before .before .before .before .before .before .before .before .before .pre .0) _ _ (c .before .before .before .before .before .before .before .before .before .before .before .before .before .before .before .pre .1) (found (c .before .before .before .before)) (omega arith) (omega arith) _ (c .before .is-valid-pair-below .ensures) (c .if3 .left))
+returns-4 c = inl (fails-check _ _ _ (c .before .before .before .before .before .before .before .before .before .before .before .before .before .before .before .pre .0) _ _ (c .before .before .before .before .before .before .before .before .before .before .before .before .before .before .before .pre .1) (found (c .before .before .before .before)) (omega arith) (omega arith) _ (c .before .is-valid-pair-below .ensures) (c .if3 .left))
 
 pub right-part-spec : {M : Type 1} → statement M
 right-part-spec =

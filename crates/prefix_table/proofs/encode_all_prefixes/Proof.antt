@@ -6,18 +6,19 @@ use borrow.Author.Needs.{needs}
 use Rattle.prefix_table.proofs.Filling.{Filling, filling-start, filling-end, filling-ready, filling-more}
 use Rattle.prefix_table.proofs.encode_all_prefixes.Statement.{statement}
 use Rattle.prefix_table.proofs.encode_all_prefixes.Tie as tie
+use Rattle.tables.specs.Tables.{pairTables}
 
 abbrev Inv-loop : tie.InvT-loop
-Inv-loop file places lefts rights area n text table₀ i₀ table i = Filling file places lefts rights area n text table₀ i table
+Inv-loop file places lefts rights area n text table₀ i₀ table i = Filling (pairTables file places lefts rights area) n text table₀ i table
 
 abbrev μ-loop : tie.MeasureT-loop
 μ-loop file places lefts rights area n text table₀ i₀ table i = length text - i
 
 loop-holds : tie.Need-loop-holds Inv-loop μ-loop
-loop-holds c = filling-start _ _ _ _ _ _ _ _ (c .before .before .before .before .before .before .before .pre)
+loop-holds c = filling-start _ _ _ _ (c .before .before .before .before .before .before .before .pre)
 
 end-code-at-requires : tie.Need-end-code-at-requires Inv-loop μ-loop
-end-code-at-requires c κs = filling-ready _ _ _ _ _ _ _ _ _ _ (c .before .before .loop .inv) (c .before .loop-test .taken)
+end-code-at-requires c κs = filling-ready _ _ _ _ _ _ (c .before .before .loop .inv) (c .before .loop-test .taken)
 
 mul-table : tie.Need-mul-table Inv-loop μ-loop
 mul-table c = search needs
@@ -32,13 +33,13 @@ loop-less : tie.Need-loop-less Inv-loop μ-loop
 loop-less c = omega arith
 
 loop-again : tie.Need-loop-again Inv-loop μ-loop
-loop-again c = filling-more _ _ _ _ _ _ _ _ _ _ (c .before .before .before .loop .inv) (c .before .before .loop-test .taken) _ (c .end-code-at .ensures)
+loop-again c = filling-more _ _ _ _ _ _ (c .before .before .before .loop .inv) (c .before .before .loop-test .taken) _ (c .end-code-at .ensures)
 
 same-length : tie.Need-same-length Inv-loop μ-loop
 same-length c = c .before .loop .inv .same-length
 
 returns : tie.Need-returns Inv-loop μ-loop
-returns c = filling-end _ _ _ _ _ _ _ _ _ _ (c .before .loop .inv) (c .loop-test .left)
+returns c = filling-end _ _ _ _ _ _ (c .before .loop .inv) (c .loop-test .left)
 
 pub encode-all-prefixes-spec : {M : Type 1} → statement M
 encode-all-prefixes-spec =

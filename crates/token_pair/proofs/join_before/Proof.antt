@@ -14,7 +14,7 @@ is-marked-requires : tie.Need-is-marked-requires
 is-marked-requires c κs = (omega arith, key-inside _ _ _ _ (c .pair-key .ensures) (c .before .before .before .before .before .before .pre .area-room))
 
 returns : tie.Need-returns
-returns c = joins-unmarked _ _ _ _ _ _ _ _ _ _ (c .before .before .before .before .before .before .before .before .pre .below) _ _ (c .before .before .pair-key .ensures) (c .before .is-marked .ensures) (not-true _ (c .if1 .taken))
+returns c = joins-unmarked _ _ _ _ _ _ (c .before .before .before .before .before .before .before .before .pre .below) _ _ (c .before .before .pair-key .ensures) (c .before .is-marked .ensures) (not-true _ (c .if1 .taken))
 
 look-up-requires : tie.Need-look-up-requires
 look-up-requires c κs = search needs

@@ -19,7 +19,7 @@ row-below-requires : tie.Need-row-below-requires
 row-below-requires c κs = search needs
 
 returns : tie.Need-returns
-returns c = rw (c .row-below .ensures) (joins-hinted _ _ _ _ _ _ _ _ _ _ (c .before .before .before .before .before .before .before .before .before .before .pre .below) _ _ (c .before .before .is-listed-before .ensures) (c .before .if1 .taken))
+returns c = rw (c .row-below .ensures) (joins-hinted _ _ _ _ _ _ (c .before .before .before .before .before .before .before .before .before .before .pre .below) _ _ (c .before .before .is-listed-before .ensures) (c .before .if1 .taken))
 
 join-requires : tie.Need-join-requires
 join-requires c κs = search needs
@@ -28,10 +28,10 @@ is-listed-before-requires-2 : tie.Need-is-listed-before-requires-2
 is-listed-before-requires-2 c κs = search needs
 
 returns-2 : tie.Need-returns-2
-returns-2 c = joins-listed _ _ _ _ _ _ _ _ _ _ (c .before .before .before .before .before .before .before .before .before .before .before .before .pre .below) _ _ (c .before .is-listed-before2 .ensures) (c .if2 .taken)
+returns-2 c = joins-listed _ _ _ _ _ _ (c .before .before .before .before .before .before .before .before .before .before .before .before .pre .below) _ _ (c .before .is-listed-before2 .ensures) (c .if2 .taken)
 
 returns-3 : tie.Need-returns-3
-returns-3 c = joins-other _ _ _ _ _ _ _ _ _ _ (c .before .before .before .before .before .before .before .before .before .before .before .before .pre .below) _ _ (c .before .before .join .ensures) (c .before .is-listed-before2 .ensures) (c .if2 .left)
+returns-3 c = joins-other _ _ _ _ _ _ (c .before .before .before .before .before .before .before .before .before .before .before .before .pre .below) _ _ (c .before .before .join .ensures) (c .before .is-listed-before2 .ensures) (c .if2 .left)
 
 pub look-up-spec : {M : Type 1} → statement M
 look-up-spec =

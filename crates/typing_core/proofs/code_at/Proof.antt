@@ -19,10 +19,10 @@ end-code-at-requires-2 : tie.Need-end-code-at-requires-2
 end-code-at-requires-2 c κs = search needs
 
 returns : tie.Need-returns
-returns c = code-appended _ _ _ _ _ _ _ _ _ (c .before .before .before .before .before .before .before .before .before .before .pre) (octets (c .before .before .before .before .before .before .before .before .before .before .args .bytes .now) (λ j. omega (arith, c .before .before .before .before .shared-slice-known6 .given j))) _ (c .before .enum-told .given .1) _ (c .end-code-at .ensures)
+returns c = code-appended _ _ _ _ _ (c .before .before .before .before .before .before .before .before .before .before .pre) (octets (c .before .before .before .before .before .before .before .before .before .before .args .bytes .now) (λ j. omega (arith, c .before .before .before .before .shared-slice-known6 .given j))) _ (c .before .enum-told .given .1) _ (c .end-code-at .ensures)
 
 returns-2 : tie.Need-returns-2
-returns-2 c = code-prepended _ _ _ _ _ _ _ _ _ (c .before .before .before .before .before .before .before .before .before .before .pre) (octets (c .before .before .before .before .before .before .before .before .before .before .args .bytes .now) (λ j. omega (arith, c .before .before .before .before .shared-slice-known6 .given j))) _ (c .before .enum-told2 .given .1) _ (c .end-code-at2 .ensures)
+returns-2 c = code-prepended _ _ _ _ _ (c .before .before .before .before .before .before .before .before .before .before .pre) (octets (c .before .before .before .before .before .before .before .before .before .before .args .bytes .now) (λ j. omega (arith, c .before .before .before .before .shared-slice-known6 .given j))) _ (c .before .enum-told2 .given .1) _ (c .end-code-at2 .ensures)
 
 pub code-at-spec : {M : Type 1} → statement M
 code-at-spec =

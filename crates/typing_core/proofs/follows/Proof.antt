@@ -12,19 +12,19 @@ add-result : tie.Need-add-result
 add-result c = search needs
 
 returns : tie.Need-returns
-returns c = follows-whole _ _ _ _ _ _ _ _ _ _ _ (c .before .row-len .ensures) (c .if1 .taken)
+returns c = follows-whole _ _ _ _ _ _ _ (c .before .row-len .ensures) (c .if1 .taken)
 
 mul-before : tie.Need-mul-before
 mul-before c = search needs
 
 shared-slice-read-before : tie.Need-shared-slice-read-before
-shared-slice-read-before c = omega (arith, c .before .before .before .before .before .before .before .before .before .pre .before .room, follows-entry _ _ _ _ _ _ _ _ _ _ (c .before .before .before .before .before .before .before .before .before .pre) (c .before .before .row-len .ensures) (c .before .if1 .left))
+shared-slice-read-before c = omega (arith, c .before .before .before .before .before .before .before .before .before .pre .before .room, follows-entry _ _ _ _ _ _ (c .before .before .before .before .before .before .before .before .before .pre) (c .before .before .row-len .ensures) (c .before .if1 .left))
 
 passes-beside-requires : tie.Need-passes-beside-requires
-passes-beside-requires c κs = follows-pair-of _ _ _ _ _ _ _ _ _ _ (c .before .before .before .before .before .before .before .before .before .pre) (c .before .before .row-len .ensures) (c .before .if1 .left)
+passes-beside-requires c κs = follows-pair-of _ _ _ _ _ _ (c .before .before .before .before .before .before .before .before .before .pre) (c .before .before .row-len .ensures) (c .before .if1 .left)
 
 returns-2 : tie.Need-returns-2
-returns-2 c = follows-beside _ _ _ _ _ _ _ _ _ _ _ (c .before .before .before .row-len .ensures) (c .before .before .if1 .left) _ (c .passes-beside .ensures)
+returns-2 c = follows-beside _ _ _ _ _ _ _ (c .before .before .before .row-len .ensures) (c .before .before .if1 .left) _ (c .passes-beside .ensures)
 
 pub follows-spec : {M : Type 1} → statement M
 follows-spec =

@@ -8,7 +8,7 @@ slice-write-bytes : tie.Need-slice-write-bytes
 slice-write-bytes c = search needs
 
 code-at-requires : tie.Need-code-at-requires
-code-at-requires c κs = push-code-ready _ _ _ _ _ _ _ _ _ _ (c .before .before .before .before .before .before .before .before .before .before .pre) _
+code-at-requires c κs = push-code-ready _ _ _ _ _ _ (c .before .before .before .before .before .before .before .before .before .before .pre) _
 
 mul-codes : tie.Need-mul-codes
 mul-codes c = search needs
@@ -35,7 +35,7 @@ same-length-3 : tie.Need-same-length-3
 same-length-3 c = search needs
 
 returns : tie.Need-returns
-returns c = push-made _ _ _ _ _ _ _ _ _ _ (c .before .before .before .before .before .before .before .before .before .before .before .before .before .pre) _ _ _ _ (c .before .before .code-at .ensures) (c .count-with .ensures)
+returns c = push-made _ _ _ _ _ _ (c .before .before .before .before .before .before .before .before .before .before .before .before .before .pre) _ _ _ _ (c .before .before .code-at .ensures) (c .count-with .ensures)
 
 pub push-core-spec : {M : Type 1} → statement M
 push-core-spec =

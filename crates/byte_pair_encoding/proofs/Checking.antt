@@ -13,14 +13,14 @@ use Rattle.tables.specs.declared.Form.the-variants as Form
 use Rattle.tables.specs.InForm.{formOf}
 use Rattle.tables.specs.Ready.{Ready}
 use Rattle.tables.proofs.Readiness.{ready}
-use Rattle.answers.specs.Refusals.{sendRefusal}
-use Rattle.answers.proofs.Refusals as Refusals
 use Rattle.byte_pair_encoding.specs.declared.Check.the-variants as Check
+use Rattle.byte_pair_encoding.specs.Refusals.{sendRefusal}
 use Rattle.byte_pair_encoding.specs.Answers.{checkedOf}
+use Rattle.byte_pair_encoding.proofs.Refusals as Refusals
 
 -- a call that is not refused
 pub record Passed (T : Tables) (text out work : List ℕ) (n : ℕ) : Type 0 where
-  pub not-refused : sendRefusal text out work (formOf T) ≡ none
+  pub not-refused : sendRefusal T text out work ≡ none
   pub count : n ≡ length (rows (T .file))
   pub tables : Ready T n
   pub short : length text ≤ 4096
@@ -31,7 +31,7 @@ module _ (T : Tables) (text out work : List ℕ) where
   open Tables T using (file)
 
   abbrev pub refusal : Option Cause
-  refusal = sendRefusal text out work (formOf T)
+  refusal = sendRefusal T text out work
 
   -- the cases of the check
 
@@ -39,22 +39,22 @@ module _ (T : Tables) (text out work : List ℕ) where
   told cause e = rw e
 
   pub told-long : 4096 < length text → Check.Refused TooLong ≡ checkedOf refusal (length (rows file))
-  told-long h = told TooLong (Refusals.too-long text out work _ h)
+  told-long h = told TooLong (Refusals.too-long T text out work h)
 
   pub told-output : length text ≤ 4096 → length out < length text → Check.Refused TooShort ≡ checkedOf refusal (length (rows file))
-  told-output s h = told TooShort (Refusals.short-output text out work _ s h)
+  told-output s h = told TooShort (Refusals.short-output T text out work s h)
 
   module _ (s : length text ≤ 4096) (o : length text ≤ length out) where
     pub told-work : length work < length text → Check.Refused TooShort ≡ checkedOf refusal (length (rows file))
-    told-work h = told TooShort (Refusals.short-work text out work _ s o h)
+    told-work h = told TooShort (Refusals.short-work T text out work s o h)
 
     module _ (w : length text ≤ length work) where
       pub told-form : formOf T ≡ Form.Out → Check.Refused OutOfForm ≡ checkedOf refusal (length (rows file))
-      told-form e = told OutOfForm (Refusals.out-of-form text out work _ s o w e)
+      told-form e = told OutOfForm (Refusals.out-of-form T text out work s o w e)
 
       pub told-rows : (n : ℕ) → formOf T ≡ Form.Rows n → Check.Rows n ≡ checkedOf refusal (length (rows file))
       told-rows n e =
-          rw (Refusals.not-refused text out work _ n s o w e)
+          rw (Refusals.not-refused T text out work s o w n e)
           (ap Check.Rows (ready T n e .places-ready .count))
 
   -- what the check tells
@@ -71,7 +71,7 @@ module _ (T : Tables) (text out work : List ℕ) where
     where
       go : (o : Option Cause) → refusal ≡ o → checkedOf o (length (rows file)) ≡ Check.Rows n → Passed T text out work n
       go none q f =
-          let p = Refusals.no-refusal text out work _ q in
+          let p = Refusals.no-refusal T text out work q in
           let R = ready T (p .in-form .0) (p .in-form .1) in
           let s : n ≡ length (rows file) = cc in
           record {

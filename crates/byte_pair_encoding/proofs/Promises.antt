@@ -9,6 +9,8 @@ use native.Mathlib.Omega.{arith}
 use lib.ListN.{length, drop}
 use Rattle.causes.specs.declared.Cause.{Cause}
 use Rattle.causes.specs.declared.Cause.the-variants.{TooShort, OutOfForm, TooLong}
+use Rattle.causes.specs.Call.{toNumber}
+use Rattle.causes.proofs.Calls.{refused-answer, given-answer}
 use Rattle.phrase_file.specs.Form.{rows}
 use Rattle.theory.specs.Dictionary.{Dictionary, Octets}
 use Rattle.theory.specs.Merge.{encode}
@@ -16,34 +18,28 @@ use Rattle.theory.specs.Backtracking.{Limited, counted, over, start, countTillL
 use Rattle.theory.proofs.CountLimit.{PassedAfter}
 use Rattle.theory.proofs.Demands.{limited-count-is, limited-count-over, limited-count-over-only}
 use Rattle.tables.specs.Tables.{Tables}
-use Rattle.tables.specs.declared.Answer.{Answer}
-use Rattle.tables.specs.declared.Answer.the-variants.{Number, Refused}
+use Rattle.causes.specs.declared.Answer.{Answer}
+use Rattle.causes.specs.declared.Answer.the-variants.{Number, Refused}
 use Rattle.tables.specs.declared.Form.the-variants as Form
 use Rattle.tables.specs.InForm.{formOf}
-use Rattle.answers.specs.Answers.{answered}
-use Rattle.answers.specs.Refusals.{sendRefusal, countRefusal}
-use Rattle.answers.proofs.Refusals.{count-as-send, too-long, short-output, short-work, out-of-form, not-refused}
 use Rattle.built.specs.Built.{dictionaryOf, Built}
 use Rattle.built.proofs.InForm.{in-form}
-use Rattle.byte_pair_encoding.specs.declared.LimitAnswer.{LimitAnswer}
-use Rattle.byte_pair_encoding.specs.declared.LimitAnswer.the-variants as LimitAnswer
-use Rattle.byte_pair_encoding.specs.Answers.{limitAnswered}
+use Rattle.causes.specs.declared.LimitAnswer.{LimitAnswer}
+use Rattle.causes.specs.declared.LimitAnswer.the-variants as LimitAnswer
+use Rattle.byte_pair_encoding.specs.Refusals.{sendRefusal, countRefusal}
+use Rattle.byte_pair_encoding.specs.Answers.{limitGiven, toLimited}
 use Rattle.byte_pair_encoding.specs.Sending.{Sends}
 use Rattle.byte_pair_encoding.specs.Counting.{Counts, CountsTillLimit}
-
--- an answer that is a number is no refusal
-pub number-answered : (refusal : Option Cause) (count k : ℕ) → answered refusal count ≡ Number k → (refusal ≡ none) × (count ≡ k)
-number-answered none count k e = (refl, cc)
-number-answered (some cause) count k e = absurd (let z : _≡_ {A = ℕ} 0 1 = cc in omega arith)
+use Rattle.byte_pair_encoding.proofs.Refusals.{count-as-send, too-long, short-output, short-work, out-of-form, not-refused}
 
 module _ (T : Tables) (text : List ℕ) (n : ℕ) (B : Built T n) (short : length text ≤ 4096) where
   -- tables that build left are in form, so that nothing is left to refuse
   pub sending-allowed : (out work : List ℕ) → length text ≤ length out → length text ≤ length work
-      → sendRefusal text out work (formOf T) ≡ none
-  sending-allowed out work o w = not-refused text out work _ n short o w (in-form T n B)
+      → sendRefusal T text out work ≡ none
+  sending-allowed out work o w = not-refused T text out work short o w n (in-form T n B)
 
-  pub counting-allowed : (work : List ℕ) → length text ≤ length work → countRefusal text work (formOf T) ≡ none
-  counting-allowed work w = count-as-send text work _ ∙ sending-allowed work work w w
+  pub counting-allowed : (work : List ℕ) → length text ≤ length work → countRefusal T text work ≡ none
+  counting-allowed work w = count-as-send T text work ∙ sending-allowed work work w w
 
 -- encoders
 
@@ -62,34 +58,34 @@ module _ (M : Dictionary → List ℕ → List ℕ) (T : Tables) (text out work 
     (s : Sends M T text out work out' work' r) where
   open Tables T using (file)
 
-  pub sends-refused : (cause : Cause) → sendRefusal text out work (formOf T) ≡ some cause
+  pub sends-refused : (cause : Cause) → sendRefusal T text out work ≡ some cause
       → SendRefused cause out work out' work' r
   sends-refused cause e =
       let k = s .refused cause e in
-      record { answer = s .answer ∙ ap (λ (o : Option Cause). answered o (s .count)) e; out-kept = k .0; work-kept = k .1 }
+      record { answer = refused-answer toNumber s e; out-kept = k .0; work-kept = k .1 }
 
   -- the causes in their order, each whatever the later ones say: 9, 7, 8
   pub sends-too-long : 4096 < length text → SendRefused TooLong out work out' work' r
-  sends-too-long h = sends-refused TooLong (too-long text out work _ h)
+  sends-too-long h = sends-refused TooLong (too-long T text out work h)
 
   pub sends-short-output : length text ≤ 4096 → length out < length text → SendRefused TooShort out work out' work' r
-  sends-short-output s h = sends-refused TooShort (short-output text out work _ s h)
+  sends-short-output s h = sends-refused TooShort (short-output T text out work s h)
 
   pub sends-short-work : length text ≤ 4096 → length text ≤ length out → length work < length text → SendRefused TooShort out work out' work' r
-  sends-short-work s o h = sends-refused TooShort (short-work text out work _ s o h)
+  sends-short-work s o h = sends-refused TooShort (short-work T text out work s o h)
 
   pub sends-out-of-form : length text ≤ 4096 → length text ≤ length out → length text ≤ length work
       → formOf T ≡ Form.Out → SendRefused OutOfForm out work out' work' r
-  sends-out-of-form s o w e = sends-refused OutOfForm (out-of-form text out work _ s o w e)
+  sends-out-of-form s o w e = sends-refused OutOfForm (out-of-form T text out work s o w e)
 
   pub sends-codes : (n : ℕ) → Built T n → length text ≤ 4096 → length text ≤ length out → length text ≤ length work
       → SentCodes (M (dictionaryOf file) text) out out' r
   sends-codes n B short o w =
       let e = sending-allowed T text n B short out work o w in
-      let b = s .built n B e in
+      let b = s .given e .built n B in
       record {
-        answer = s .answer ∙ ap (λ (q : Option Cause). answered q (s .count)) e ∙ ap Number (b .0);
-        codes = b .1 ∙ ap (λ (k : ℕ). M (dictionaryOf file) text ++ drop k out) (b .0);
+        answer = given-answer toNumber s e ∙ ap Number (b .count-is);
+        codes = b .codes-are ∙ ap (λ (k : ℕ). M (dictionaryOf file) text ++ drop k out) (b .count-is);
       }
 
 -- `count`
@@ -97,36 +93,36 @@ module _ (T : Tables) (text work work' : List ℕ) (r : Answer)
     (s : Counts T text work work' r) where
   open Tables T using (file)
 
-  pub counts-refused : (cause : Cause) → countRefusal text work (formOf T) ≡ some cause → (r ≡ Refused cause) × (work' ≡ work)
-  counts-refused cause e = (s .answer ∙ ap (λ (o : Option Cause). answered o (s .count)) e, s .refused cause e)
+  pub counts-refused : (cause : Cause) → countRefusal T text work ≡ some cause → (r ≡ Refused cause) × (work' ≡ work)
+  counts-refused cause e = (refused-answer toNumber s e, s .refused cause e)
 
   pub counts-codes : (n : ℕ) → Built T n → length text ≤ 4096 → length text ≤ length work
       → r ≡ Number (length (encode (dictionaryOf file) text))
   counts-codes n B short w =
       let e = counting-allowed T text n B short work w in
-      s .answer ∙ ap (λ (q : Option Cause). answered q (s .count)) e ∙ ap Number (s .built n B e)
+      given-answer toNumber s e ∙ ap Number (s .given e .built n B)
 
 -- `count_till_limit`
 module _ (T : Tables) (text : List ℕ) (limit : ℕ) (work work' : List ℕ) (r : LimitAnswer)
     (s : CountsTillLimit T text limit work work' r) where
   open Tables T using (file)
 
-  pub limits-refused : (cause : Cause) → countRefusal text work (formOf T) ≡ some cause
+  pub limits-refused : (cause : Cause) → countRefusal T text work ≡ some cause
       → (r ≡ LimitAnswer.Refused cause) × (work' ≡ work)
-  limits-refused cause e = (s .answer ∙ ap (λ (o : Option Cause). limitAnswered o (s .limited)) e, s .refused cause e)
+  limits-refused cause e = (refused-answer toLimited s e, s .refused cause e)
 
   module _ (n : ℕ) (B : Built T n) (short : length text ≤ 4096) (room : length text ≤ length work) where
     -- the answer is the definition's
-    pub limits-count : r ≡ limitAnswered none (countTillLimit (dictionaryOf file) text limit)
+    pub limits-count : r ≡ limitGiven (countTillLimit (dictionaryOf file) text limit)
     limits-count =
         let e = counting-allowed T text n B short work room in
-        s .answer ∙ ap (λ (q : Option Cause). limitAnswered q (s .limited)) e ∙ ap (limitAnswered none) (s .built n B e .0)
+        given-answer toLimited s e ∙ ap limitGiven (s .given e .built n B)
 
-    counted-of : (l : Limited) (k : ℕ) → limitAnswered none l ≡ LimitAnswer.Counted k → l ≡ counted k
+    counted-of : (l : Limited) (k : ℕ) → limitGiven l ≡ LimitAnswer.Counted k → l ≡ counted k
     counted-of (counted m) k e = let q : m ≡ k = cc in ap counted q
     counted-of over k e = absurd (let z : _≡_ {A = ℕ} 0 1 = cc in omega arith)
 
-    over-of : (l : Limited) → limitAnswered none l ≡ LimitAnswer.Over → l ≡ over
+    over-of : (l : Limited) → limitGiven l ≡ LimitAnswer.Over → l ≡ over
     over-of (counted m) e = absurd (let z : _≡_ {A = ℕ} 0 1 = cc in omega arith)
     over-of over e = refl
 
@@ -139,7 +135,7 @@ module _ (T : Tables) (text : List ℕ) (limit : ℕ) (work work' : List ℕ) (r
       -- a number of codes that passes the limit is "over"
       pub limits-over : limit < length (encode (dictionaryOf file) text) → r ≡ LimitAnswer.Over
       unfolding dictionaryOf
-      limits-over h = limits-count ∙ ap (limitAnswered none) (limited-count-over (rows file) (B .accepted) text o limit h)
+      limits-over h = limits-count ∙ ap limitGiven (limited-count-over (rows file) (B .accepted) text o limit h)
 
       -- it is "over" only then, or if the running count passed limit + 10 after a step that did not finish the text
       pub limits-over-only : r ≡ LimitAnswer.Over

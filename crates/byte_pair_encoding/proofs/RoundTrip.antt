@@ -5,6 +5,7 @@ use Prim.Native.Nat.{ℕ, _≤_, _<_}
 use native.Mathlib.Omega.{arith}
 use lib.ListN.{length, getD, take, drop}
 use lib.Seq.{take-at, length-take-le, getD-take}
+use Rattle.causes.proofs.Calls.{numbers-apart, value-given}
 use Rattle.phrase_file.specs.Form.{rows}
 use Rattle.phrase_file.proofs.Checks.{accepted}
 use Rattle.theory.specs.Dictionary.{Dictionary, Octets, spell}
@@ -13,12 +14,12 @@ use Rattle.theory.specs.Shortest.{shortest, greedy}
 use Rattle.theory.specs.Parts.{Accepted, dictionary}
 use Rattle.theory.proofs.Demands.{demand-2-decoding}
 use Rattle.tables.specs.Tables.{Tables}
-use Rattle.tables.specs.declared.Answer.{Answer}
-use Rattle.tables.specs.declared.Answer.the-variants.{Number}
-use Rattle.answers.proofs.Refusals.{no-refusal}
+use Rattle.causes.specs.declared.Answer.{Answer}
+use Rattle.causes.specs.declared.Answer.the-variants.{Number}
 use Rattle.built.specs.Built.{dictionaryOf, Built}
 use Rattle.byte_pair_encoding.specs.Sending.{Sends}
-use Rattle.byte_pair_encoding.proofs.Promises.{number-answered, sends-codes}
+use Rattle.byte_pair_encoding.proofs.Refusals.{no-refusal}
+use Rattle.byte_pair_encoding.proofs.Promises.{sends-codes}
 
 -- codes that spell the text, over accepted rows and a text of octets
 abbrev pub Spells : (Dictionary → List ℕ → List ℕ) → Type 0
@@ -49,15 +50,15 @@ module _ (M : Dictionary → List ℕ → List ℕ) (m : Spells M) (T : Tables) 
   pub round-trip : (k : ℕ) → r ≡ Number k → Decodes file text n (take k out')
   unfolding dictionaryOf
   round-trip k e =
-      let a = number-answered _ (s .count) k (sym (s .answer) ∙ e) in
-      let w = s .written (a .0) in
-      let b = s .built n B (a .0) in
-      let p = no-refusal text out work _ (a .0) in
+      let a = value-given numbers-apart s k e in
+      let w = s .given (a .0) .written in
+      let b = s .given (a .0) .built n B in
+      let p = no-refusal T text out work (a .0) in
       let room : k ≤ length out' = omega (arith, a .1, w .few, w .out-length, p .out-room) in
       let size : length (take k out') ≡ k = length-take-le k out' room in
       record {
-        spells = ap (λ (l : List ℕ). spell (dictionaryOf file) (take k l)) (b .1)
-            ∙ ap (spell (dictionaryOf file)) (take-at (M (dictionaryOf file) text) (drop (s .count) out) k (sym (b .0) ∙ a .1))
+        spells = ap (λ (l : List ℕ). spell (dictionaryOf file) (take k l)) (b .codes-are)
+            ∙ ap (spell (dictionaryOf file)) (take-at (M (dictionaryOf file) text) (drop (s .value) out) k (sym (b .count-is) ∙ a .1))
             ∙ m (rows file) (B .accepted) text o;
         few = omega (arith, a .1, w .few, p .short, size);
         known = λ i h.

@@ -12,22 +12,20 @@ use Rattle.theory.specs.Dictionary.{Dictionary}
 use Rattle.theory.specs.Merge.{encode}
 use Rattle.theory.specs.Shortest.{shortest, greedy}
 use Rattle.tables.specs.Tables.{Tables, withoutPrefixes}
-use Rattle.tables.specs.declared.Answer.the-variants.{Number, Refused}
+use Rattle.causes.specs.declared.Answer.the-variants.{Number, Refused}
+use Rattle.causes.specs.Call.{toNumber}
+use Rattle.causes.proofs.Calls.{call-refused, call-given}
 use Rattle.tables.specs.InForm.{formOf}
-use Rattle.answers.specs.Refusals.{sendRefusal}
 use Rattle.built.specs.Built.{dictionaryOf, Built}
 use Rattle.backtrack_encoder.specs.Answers.{OutputReady, EncodedInto}
 use Rattle.merge_encoder.specs.Encoding as Merge
 use Rattle.prefix_table.specs.Walk.{TableReady, TableCodes}
 use Rattle.shortest_encoder.specs.Encoders.{MinimalReady, MinimalIs, GreedyReady, GreedyIs}
 use Rattle.byte_pair_encoding.specs.declared.Check.the-variants as Check
+use Rattle.byte_pair_encoding.specs.Refusals.{sendRefusal}
 use Rattle.byte_pair_encoding.specs.Answers.{checkedOf}
-use Rattle.byte_pair_encoding.specs.Sending.{Written, Sends}
+use Rattle.byte_pair_encoding.specs.Sending.{Written, SentAll, Sends}
 use Rattle.byte_pair_encoding.proofs.Checking.{Passed, refused, passed}
-
--- a refusal is not no refusal
-pub some-none : (cause : Cause) → some cause ≡ none → ⊥
-some-none cause e = let z : _≡_ {A = ℕ} 0 1 = cc in omega arith
 
 module _ (T : Tables) where
   open Tables T using (file)
@@ -40,32 +38,17 @@ module _ (T : Tables) where
 module _ (M : Dictionary → List ℕ → List ℕ) (T : Tables) (text out work : List ℕ) where
   open Tables T using (file)
 
-  pub nothing-sent : (cause : Cause) → checkedOf (sendRefusal text out work (formOf T)) (length (rows file)) ≡ Check.Refused cause
+  pub nothing-sent : (cause : Cause) → checkedOf (sendRefusal T text out work) (length (rows file)) ≡ Check.Refused cause
       → Sends M T text out work out work (Refused cause)
-  nothing-sent cause e =
-      let q = refused T text out work cause e in
-      record {
-        count = 0;
-        answer = rw q;
-        refused = λ d f. (refl, refl);
-        written = λ f. absurd (some-none cause (sym q ∙ f));
-        built = λ n B f. absurd (some-none cause (sym q ∙ f));
-      }
+  nothing-sent cause e = call-refused toNumber (refused T text out work cause e) 0 (refl, refl)
 
-  sent : (n count : ℕ) (out' work' : List ℕ) → Passed T text out work n
-      → Written file text out work out' work' count → (Built T n → (count ≡ length (M (dictionaryOf file) text)) × (out' ≡ M (dictionaryOf file) text ++ drop count out))
-      → Sends M T text out work out' work' (Number count)
+  sent : (n count : ℕ) (out' work' : List ℕ) → Passed T text out work n → Written file text out work out' work' count
+      → (Built T n → SentAll (M (dictionaryOf file) text) out out' count) → Sends M T text out work out' work' (Number count)
   sent n count out' work' p w b =
-      record {
-        count = count;
-        answer = rw (p .not-refused);
-        refused = λ d f. absurd (some-none d (sym f ∙ p .not-refused));
-        written = λ f. w;
-        built = λ m B f. b (built-count T m n (p .count) B);
-      }
+      call-given toNumber (p .not-refused) count (record { written = w; built = λ m B. b (built-count T m n (p .count) B) })
 
 module _ (T : Tables) (text out work : List ℕ) (n : ℕ)
-    (e : checkedOf (sendRefusal text out work (formOf T)) (length (rows (T .file))) ≡ Check.Rows n) where
+    (e : checkedOf (sendRefusal T text out work) (length (rows (T .file))) ≡ Check.Rows n) where
   open Tables T using (file, places as placeTable, lefts, rights, prefixes, area)
 
   p : Passed T text out work n
@@ -95,7 +78,7 @@ module _ (T : Tables) (text out work : List ℕ) (n : ℕ)
         work-length = s .work-length;
         work-beyond = s .work-beyond;
       })
-      (λ B. let r = s .built prefixes B in (r .count, r .codes))
+      (λ B. let r = s .built prefixes B in record { count-is = r .count; codes-are = r .codes })
 
   pub backtracking-ready : OutputReady T n text out work
   backtracking-ready = record { ready = record { tables = p .tables; short = p .short; room = p .work-room }; out-room = p .out-room }
@@ -112,7 +95,7 @@ module _ (T : Tables) (text out work : List ℕ) (n : ℕ)
         work-length = s .work-length;
         work-beyond = s .work-beyond;
       })
-      (λ B. (s .count-is B, rw (s .count-is B) (s .codes-are B)))
+      (λ B. record { count-is = s .count-is B; codes-are = rw (s .count-is B) (s .codes-are B) })
 
   pub table-ready : TableReady (withoutPrefixes T) n text out work
   table-ready = record {
@@ -133,7 +116,7 @@ module _ (T : Tables) (text out work : List ℕ) (n : ℕ)
         work-length = s .work-length;
         work-beyond = s .work-beyond;
       })
-      (s .built prefixes)
+      (λ B. let r = s .built prefixes B in record { count-is = r .0; codes-are = r .1 })
 
   pub minimal-ready : MinimalReady file placeTable area n text out work
   minimal-ready = record {
@@ -158,7 +141,7 @@ module _ (T : Tables) (text out work : List ℕ) (n : ℕ)
         work-length = s .work-size;
         work-beyond = s .work-beyond;
       })
-      (λ B. let r = s .built lefts rights prefixes B in (r .count, r .codes))
+      (λ B. let r = s .built lefts rights prefixes B in record { count-is = r .count; codes-are = r .codes })
 
   pub greedy-ready : GreedyReady file placeTable area n text out
   greedy-ready = record { places-ready = p .tables .places-ready; area-room = p .tables .area-room; few = p .short; out-room = p .out-room }
@@ -175,4 +158,4 @@ module _ (T : Tables) (text out work : List ℕ) (n : ℕ)
         work-length = refl;
         work-beyond = refl;
       })
-      (λ B. let r = s .built lefts rights prefixes B in (r .count, r .codes))
+      (λ B. let r = s .built lefts rights prefixes B in record { count-is = r .count; codes-are = r .codes })

@@ -1,27 +1,26 @@
 // Sending and counting: each call checks its arguments, and then runs the encoder over tables in form.
 ghost use mathlib.Core.Path.{_≡_};
-ghost use mathlib.Core.Option.{none};
 ghost use lib.ListN.{length};
 ghost use Rattle.phrase_file.specs.Form.{rows};
 ghost use Rattle.theory.specs.Merge.{encode};
 ghost use Rattle.theory.specs.Shortest.{shortest, greedy};
 ghost use Rattle.tables.specs.Tables.{lent, before, after};
-ghost use Rattle.tables.specs.InForm.{formOf};
-ghost use Rattle.answers.specs.Refusals.{sendRefusal};
 ghost use Rattle.backtrack_encoder.specs.Answers as Answers;
-ghost use Rattle.byte_pair_encoding.specs.Answers.{checkedOf, limitAnswerOf, limitAnswered};
+ghost use Rattle.byte_pair_encoding.specs.Refusals.{sendRefusal};
+ghost use Rattle.byte_pair_encoding.specs.Answers.{checkedOf, limitGiven};
 ghost use Rattle.byte_pair_encoding.specs.Sending.{Sends};
 ghost use Rattle.byte_pair_encoding.specs.Counting.{Counts, CountsTillLimit};
 use backtrack_encoder::Limited;
 use backtrack_encoder::count_core;
 use backtrack_encoder::count_till_limit_core;
 use backtrack_encoder::encode_via_backtracking_core;
+use causes::Answer;
 use causes::Cause;
+use causes::LimitAnswer;
 use merge_encoder::encode_via_bitfield_core;
 use prefix_table::encode_via_table_core;
 use shortest_encoder::encode_greedy_core;
 use shortest_encoder::encode_minimal_core;
-use tables::Answer;
 use tables::Form;
 
 // The count of rows, or why a call is refused.
@@ -30,38 +29,9 @@ enum Check {
     Refused(Cause),
 }
 
-// The answer of a count with a limit.
-pub enum LimitAnswer {
-    Counted(usize),
-    Over,
-    Refused(Cause),
-}
-
-// The number of such an answer: 0 if it is no refusal.
-pub fn limit_answer_number(answer: LimitAnswer) -> u32
-    ensures { λ r. ⌜ r ≡ limitAnswerOf answer .number ⌝ }
-{
-    match answer {
-        LimitAnswer::Counted(_) => 0,
-        LimitAnswer::Over => 0,
-        LimitAnswer::Refused(cause) => causes::cause_number(cause),
-    }
-}
-
-// The place of such an answer: its count, and none for "over", if it is no refusal.
-pub fn limit_answer_place(answer: LimitAnswer) -> u64
-    ensures { λ r. ⌜ r ≡ limitAnswerOf answer .place ⌝ }
-{
-    match answer {
-        LimitAnswer::Counted(count) => count as u64,
-        LimitAnswer::Over => 4294967295,
-        LimitAnswer::Refused(cause) => causes::cause_place(cause),
-    }
-}
-
 // The count or "over" as an answer.
 fn told(limited: Limited) -> LimitAnswer
-    ensures { λ r. ⌜ r ≡ limitAnswered none (Answers.limitedOf limited) ⌝ }
+    ensures { λ r. ⌜ r ≡ limitGiven (Answers.limitedOf limited) ⌝ }
 {
     match limited {
         Limited::Counted(count) => LimitAnswer::Counted(count),
@@ -81,8 +51,8 @@ fn checked(
     out: &[u32],
     work: &[u32],
 ) -> Check
-    ensures { λ r. ⌜ r ≡ checkedOf (sendRefusal (before text) (before out) (before work)
-        (formOf (lent file places lefts rights prefixes area))) (length (rows (before file))) ⌝ }
+    ensures { λ r. ⌜ r ≡ checkedOf (sendRefusal (lent file places lefts rights prefixes area)
+        (before text) (before out) (before work)) (length (rows (before file))) ⌝ }
 {
     if 4096 < text.len() {
         return Check::Refused(Cause::TooLong);

@@ -1,11 +1,18 @@
--- The causes of document 01: the number of each and the place that is returned with it. Assumes nothing.
+-- The causes of document 01: the number of each, the place that is returned with it, and the same for every answer.
+use mathlib.Core.Bool.{cond}
 use Prim.Native.Nat.{ℕ}
 use Rattle.causes.specs.declared.Cause.{Cause}
 use Rattle.causes.specs.declared.Cause.the-variants.{FactorZero, BadRecord, RowCount, MissingByte, SameHash, NoParts, TooShort, OutOfForm, TooLong, UnknownCode, BadInterval, Full}
 use Rattle.causes.specs.declared.BuildAnswer.{BuildAnswer}
-use Rattle.causes.specs.declared.BuildAnswer.the-variants.{Rows, Refused}
+use Rattle.causes.specs.declared.BuildAnswer.the-variants as BuildAnswer
+use Rattle.causes.specs.declared.Answer.{Answer}
+use Rattle.causes.specs.declared.Answer.the-variants as Answer
+use Rattle.causes.specs.declared.PairAnswer.{PairAnswer}
+use Rattle.causes.specs.declared.PairAnswer.the-variants as PairAnswer
+use Rattle.causes.specs.declared.LimitAnswer.{LimitAnswer}
+use Rattle.causes.specs.declared.LimitAnswer.the-variants as LimitAnswer
 
--- the number of a cause ("No.") and its place ("Returned place")
+-- the number of a cause ("No.") and its place ("Returned place"); of an answer that is no refusal, 0 and its value
 pub record Refusal : Type 0 where
   pub number : ℕ
   pub place : ℕ
@@ -25,7 +32,25 @@ refusalOf (UnknownCode index) = record { number = 10; place = index }
 refusalOf BadInterval = record { number = 11; place = 0 }
 refusalOf (Full size) = record { number = 12; place = size }
 
--- the same of an answer of build: number 0 and the count of rows if it is no refusal
+-- "When an answer is an enum, a definition gives this paper's number and values for each enum case."
+
+-- build: the count of rows
 abbrev pub buildAnswerOf : BuildAnswer → Refusal
-buildAnswerOf (Rows n) = record { number = 0; place = n }
-buildAnswerOf (Refused cause) = refusalOf cause
+buildAnswerOf (BuildAnswer.Rows n) = record { number = 0; place = n }
+buildAnswerOf (BuildAnswer.Refused cause) = refusalOf cause
+
+-- the calls that answer a number
+abbrev pub answerOf : Answer → Refusal
+answerOf (Answer.Number count) = record { number = 0; place = count }
+answerOf (Answer.Refused cause) = refusalOf cause
+
+-- the pair check: 1 if the pair passes, else 0
+abbrev pub pairAnswerOf : PairAnswer → Refusal
+pairAnswerOf (PairAnswer.Passes b) = record { number = 0; place = cond b 1 0 }
+pairAnswerOf (PairAnswer.Refused cause) = refusalOf cause
+
+-- the count with a limit: the count, and none, which is 4294967295, for "over"
+abbrev pub limitAnswerOf : LimitAnswer → Refusal
+limitAnswerOf (LimitAnswer.Counted count) = record { number = 0; place = count }
+limitAnswerOf LimitAnswer.Over = record { number = 0; place = 4294967295 }
+limitAnswerOf (LimitAnswer.Refused cause) = refusalOf cause

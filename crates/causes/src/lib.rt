@@ -1,6 +1,7 @@
-// Why a call is refused, for all calls, and the answer of build.
+// Why a call is refused, for all calls, and what calls answer. An answer's number is 0 if it is no refusal, and its place
+// is then its value.
 ghost use mathlib.Core.Path.{_≡_};
-ghost use Rattle.causes.specs.Causes.{refusalOf, buildAnswerOf};
+ghost use Rattle.causes.specs.Causes.{refusalOf, buildAnswerOf, answerOf, pairAnswerOf, limitAnswerOf};
 
 pub enum Cause {
     FactorZero,
@@ -24,9 +25,29 @@ pub enum Cause {
     Full(usize),
 }
 
+// The answer of build.
 pub enum BuildAnswer {
     // The count of rows.
     Rows(usize),
+    Refused(Cause),
+}
+
+// A number of codes, bytes or rows, or a new length.
+pub enum Answer {
+    Number(usize),
+    Refused(Cause),
+}
+
+// The answer of the pair check.
+pub enum PairAnswer {
+    Passes(bool),
+    Refused(Cause),
+}
+
+// The answer of a count with a limit.
+pub enum LimitAnswer {
+    Counted(usize),
+    Over,
     Refused(Cause),
 }
 
@@ -70,7 +91,6 @@ pub fn cause_place(cause: Cause) -> u64
     }
 }
 
-// The number of an answer of build: 0 if it is no refusal.
 pub fn build_answer_number(answer: BuildAnswer) -> u32
     ensures { λ r. ⌜ r ≡ buildAnswerOf answer .number ⌝ }
 {
@@ -80,12 +100,69 @@ pub fn build_answer_number(answer: BuildAnswer) -> u32
     }
 }
 
-// The place of an answer of build: the count of rows if it is no refusal.
 pub fn build_answer_place(answer: BuildAnswer) -> u64
     ensures { λ r. ⌜ r ≡ buildAnswerOf answer .place ⌝ }
 {
     match answer {
         BuildAnswer::Rows(n) => n as u64,
         BuildAnswer::Refused(cause) => cause_place(cause),
+    }
+}
+
+pub fn answer_number(answer: Answer) -> u32
+    ensures { λ r. ⌜ r ≡ answerOf answer .number ⌝ }
+{
+    match answer {
+        Answer::Number(_) => 0,
+        Answer::Refused(cause) => cause_number(cause),
+    }
+}
+
+pub fn answer_place(answer: Answer) -> u64
+    ensures { λ r. ⌜ r ≡ answerOf answer .place ⌝ }
+{
+    match answer {
+        Answer::Number(count) => count as u64,
+        Answer::Refused(cause) => cause_place(cause),
+    }
+}
+
+pub fn pair_answer_number(answer: PairAnswer) -> u32
+    ensures { λ r. ⌜ r ≡ pairAnswerOf answer .number ⌝ }
+{
+    match answer {
+        PairAnswer::Passes(_) => 0,
+        PairAnswer::Refused(cause) => cause_number(cause),
+    }
+}
+
+// 1 if the pair passes, 0 if it does not.
+pub fn pair_answer_place(answer: PairAnswer) -> u64
+    ensures { λ r. ⌜ r ≡ pairAnswerOf answer .place ⌝ }
+{
+    match answer {
+        PairAnswer::Passes(passes) => { if passes { 1 } else { 0 } }
+        PairAnswer::Refused(cause) => cause_place(cause),
+    }
+}
+
+pub fn limit_answer_number(answer: LimitAnswer) -> u32
+    ensures { λ r. ⌜ r ≡ limitAnswerOf answer .number ⌝ }
+{
+    match answer {
+        LimitAnswer::Counted(_) => 0,
+        LimitAnswer::Over => 0,
+        LimitAnswer::Refused(cause) => cause_number(cause),
+    }
+}
+
+// None for "over".
+pub fn limit_answer_place(answer: LimitAnswer) -> u64
+    ensures { λ r. ⌜ r ≡ limitAnswerOf answer .place ⌝ }
+{
+    match answer {
+        LimitAnswer::Counted(count) => count as u64,
+        LimitAnswer::Over => 4294967295,
+        LimitAnswer::Refused(cause) => cause_place(cause),
     }
 }

@@ -10,18 +10,10 @@ use lib.Seq.{drop-cons}
 use lib.Dec.{ltb}
 use borrow.Author.Tests.{lt-ltb, le-ltb, ltb-true, ltb-false}
 use Rattle.theory.specs.Dictionary.{Dictionary, AllRows}
-use Rattle.decoder.specs.Decoding.{firstUnknown}
+use Rattle.causes.specs.Order.{firstUnknown}
+use Rattle.causes.proofs.Unknown.{unknown-first, unknown-behind}
 
 module _ (n : ℕ) where
-  -- the steps of the definition
-  unknown-first : (c : ℕ) (codes : List ℕ) → n ≤ c → firstUnknown n (c ∷ codes) ≡ 0
-  unfolding firstUnknown
-  unknown-first c codes h = rw (le-ltb c n h, firstUnknown)
-
-  unknown-behind : (c : ℕ) (codes : List ℕ) → c < n → firstUnknown n (c ∷ codes) ≡ suc (firstUnknown n codes)
-  unfolding firstUnknown
-  unknown-behind c codes h = rw (lt-ltb c n h, firstUnknown)
-
   -- what holds of it
   pub record UnknownIs (codes : List ℕ) : Type 0 where
     pub within : firstUnknown n codes ≤ length codes
@@ -35,7 +27,7 @@ module _ (n : ℕ) where
     where
       go : (b : Bool) → ltb c n ≡ b → UnknownIs codes → UnknownIs (c ∷ codes)
       go true e f =
-          let q = unknown-behind c codes (ltb-true c n e) in
+          let q = unknown-behind n c codes (ltb-true c n e) in
           record {
             within = omega (arith, f .within);
             before = λ i h. below i (rw q at h);
@@ -46,7 +38,7 @@ module _ (n : ℕ) where
           below zero h = ltb-true c n e
           below (suc i) h = f .before i (omega arith)
       go false e f =
-          let q = unknown-first c codes (ltb-false c n e) in
+          let q = unknown-first n c codes (ltb-false c n e) in
           record {
             within = omega arith;
             before = λ i h. absurd (omega arith);
@@ -60,7 +52,7 @@ module _ (n : ℕ) where
   pub known-all : (codes : List ℕ) → ((i : ℕ) → i < length codes → getD codes i 0 < n) → firstUnknown n codes ≡ length codes
   unfolding firstUnknown
   known-all [] h = refl
-  known-all (c ∷ codes) h = unknown-behind c codes (h 0 (omega arith)) ∙ ap suc (known-all codes (λ i l. h (suc i) (omega arith)))
+  known-all (c ∷ codes) h = unknown-behind n c codes (h 0 (omega arith)) ∙ ap suc (known-all codes (λ i l. h (suc i) (omega arith)))
 
   -- the search: i codes are passed
   pub record Passed (codes : List ℕ) (i : ℕ) : Type 0 where
@@ -73,12 +65,12 @@ module _ (n : ℕ) where
   module _ (codes : List ℕ) (i : ℕ) (p : Passed codes i) where
     pub passed-more : i < length codes → getD codes i 0 < n → Passed codes (i + 1)
     passed-more l h =
-        let e : firstUnknown n (drop i codes) ≡ suc (firstUnknown n (drop (i + 1) codes)) = rw (add-one, drop-cons codes i 0 l) (unknown-behind (getD codes i 0) (drop (suc i) codes) h) in
+        let e : firstUnknown n (drop i codes) ≡ suc (firstUnknown n (drop (i + 1) codes)) = rw (add-one, drop-cons codes i 0 l) (unknown-behind n (getD codes i 0) (drop (suc i) codes) h) in
         record { few = omega arith; is = omega (arith, p .is) }
 
     pub passed-found : i < length codes → n ≤ getD codes i 0 → i ≡ firstUnknown n codes
     passed-found l h =
-        let e : firstUnknown n (drop i codes) ≡ 0 = rw (drop-cons codes i 0 l) (unknown-first (getD codes i 0) (drop (suc i) codes) h) in
+        let e : firstUnknown n (drop i codes) ≡ 0 = rw (drop-cons codes i 0 l) (unknown-first n (getD codes i 0) (drop (suc i) codes) h) in
         omega (arith, p .is)
 
     pub passed-all : length codes ≤ i → i ≡ firstUnknown n codes

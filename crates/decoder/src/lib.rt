@@ -6,13 +6,14 @@ ghost use Rattle.placed_rows.specs.Rows.{row};
 ghost use Rattle.placed_rows.specs.Texts.{Begins};
 ghost use Rattle.theory.specs.Dictionary.{spell};
 ghost use Rattle.built.specs.Built.{dictionaryOf};
-ghost use Rattle.decoder.specs.Decoding.{firstUnknown, Decodes};
+ghost use Rattle.causes.specs.Order.{firstUnknown};
+ghost use Rattle.decoder.specs.Decoding.{Decodes};
 ghost use Rattle.decoder.specs.Steps.{CodesReady, RowRead, CopyReady, Copied, WriteReady};
 ghost use Rattle.tables.specs.Tables.{lent, before, after};
+use causes::Answer;
 use causes::Cause;
 use placed_rows::length_of;
 use placed_rows::wide;
-use tables::Answer;
 use tables::Form;
 
 // The index of the first code not below n, or the number of codes if there is none.

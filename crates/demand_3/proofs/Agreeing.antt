@@ -12,31 +12,22 @@ use Rattle.theory.specs.Typing.{append, countAt}
 use Rattle.theory.proofs.Typing.{countAt-last}
 use Rattle.theory.proofs.Encode.{encode-spells}
 use Rattle.theory.proofs.Decoding.{codes-fit}
+use Rattle.causes.proofs.Calls.{some-none, numbers-apart, value-given, refused-given}
 use Rattle.tables.specs.Tables.{Tables}
-use Rattle.tables.specs.declared.Answer.{Answer}
-use Rattle.tables.specs.declared.Answer.the-variants.{Number, Refused}
+use Rattle.causes.specs.declared.Answer.{Answer}
+use Rattle.causes.specs.declared.Answer.the-variants.{Number, Refused}
 use Rattle.tables.specs.InForm.{formOf}
-use Rattle.answers.specs.Answers.{answered}
-use Rattle.answers.specs.Refusals.{sendRefusal, countRefusal}
-use Rattle.answers.proofs.Refusals.{count-as-send, not-refused, no-refusal}
 use Rattle.built.specs.Built.{dictionaryOf, Built}
 use Rattle.built.proofs.Rows.{lawful-is}
 use Rattle.byte_pair_encoding.specs.Sending.{Written, Sends}
 use Rattle.byte_pair_encoding.specs.Counting.{Counts}
-use Rattle.byte_pair_encoding.proofs.Promises.{number-answered, sending-allowed}
+use Rattle.byte_pair_encoding.specs.Refusals.{sendRefusal, countRefusal}
+use Rattle.byte_pair_encoding.proofs.Refusals.{count-as-send, not-refused, no-refusal}
+use Rattle.byte_pair_encoding.proofs.Promises.{sending-allowed}
 use Rattle.typing.specs.Text.{TextTyped}
 use Rattle.demand_3.specs.declared.Agreement.{Agreement}
 use Rattle.demand_3.specs.declared.Agreement.the-variants as Agreement
 use Rattle.demand_3.specs.Agreement.{lastCount, agreementOf, TypedCount, Compared, AsMerged, Agrees}
-
--- an answer that is a refusal has its cause
-refused-answered : (refusal : Option Cause) (count : ℕ) (cause : Cause) → answered refusal count ≡ Refused cause → refusal ≡ some cause
-refused-answered none count cause e = absurd (let z : _≡_ {A = ℕ} 0 1 = cc in omega arith)
-refused-answered (some other) count cause e = let q : other ≡ cause = cc in ap some q
-
--- there is no cause where there is none
-some-none : {A : Type 0} (refusal : Option Cause) (cause : Cause) → refusal ≡ some cause → refusal ≡ none → A
-some-none refusal cause e f = absurd (let g : none ≡ some cause = sym f ∙ e in let z : _≡_ {A = ℕ} 0 1 = cc in omega arith)
 
 -- the cases of the answer
 all-same : (refusal : Option Cause) (sent counted last : ℕ) → refusal ≡ none → sent ≡ counted → sent ≡ last → agreementOf refusal sent counted last ≡ Agreement.Agree sent
@@ -77,7 +68,7 @@ module _ (T : Tables) (text counts : List ℕ) where
 
   module _ (out work : List ℕ) where
     abbrev refusal : Option Cause
-    refusal = sendRefusal text out work (formOf T)
+    refusal = sendRefusal T text out work
 
     -- the promise where nothing was refused, from what holds then
     compared-agrees : (out' work' counts' : List ℕ) (r : Agreement) (sent counted typed : ℕ) → refusal ≡ none
@@ -90,7 +81,7 @@ module _ (T : Tables) (text counts : List ℕ) where
       counted = counted;
       typed = typed;
       answer = is;
-      refused = λ cause e. some-none refusal cause e allowed;
+      refused = λ cause e. some-none e allowed;
       compared = λ e. holds;
       merged = λ n B e. merged n B;
       built = λ n B room.
@@ -103,49 +94,48 @@ module _ (T : Tables) (text counts : List ℕ) where
       -- the sender refuses
       pub send-refused : (cause : Cause) → sending ≡ Refused cause → Agrees T text out work counts out' work' counts (Agreement.Refused cause)
       send-refused cause e =
-          let why : refusal ≡ some cause = refused-answered refusal (s .count) cause (sym (s .answer) ∙ e) in
+          let why : refusal ≡ some cause = refused-given numbers-apart s cause e in
           record {
             sent = 0;
             counted = 0;
             typed = 0;
             answer = sym (ap (λ (o : Option Cause). agreementOf o 0 0 0) why);
             refused = λ other f. let k = s .refused other f in (k .0, k .1, refl);
-            compared = λ f. some-none refusal cause why f;
-            merged = λ n B f. some-none refusal cause why f;
+            compared = λ f. some-none why f;
+            merged = λ n B f. some-none why f;
             built = λ n B room.
-                some-none refusal cause why (sending-allowed T text n B (room .short) out work (room .out-room) (room .work-room));
+                some-none why (sending-allowed T text n B (room .short) out work (room .out-room) (room .work-room));
           }
 
       module _ (number : ℕ) (e : sending ≡ Number number) where
-        sent-given : (refusal ≡ none) × (s .count ≡ number)
-        sent-given = number-answered refusal (s .count) number (sym (s .answer) ∙ e)
+        sent-given : (refusal ≡ none) × (s .value ≡ number)
+        sent-given = value-given numbers-apart s number e
 
         module _ (work'' : List ℕ) (counting : Answer) (c : Counts T text work' work'' counting) where
           abbrev counter-refusal : Option Cause
-          counter-refusal = countRefusal text work' (formOf T)
+          counter-refusal = countRefusal T text work'
 
           -- the counter asks for less than the sender, and the sender keeps the work buffer's length
           count-allowed : counter-refusal ≡ none
           count-allowed =
-              let held = no-refusal text out work (formOf T) (sent-given .0) in
-              let kept = s .written (sent-given .0) .work-length in
+              let held = no-refusal T text out work (sent-given .0) in
+              let kept = s .given (sent-given .0) .written .work-length in
               let room : length text ≤ length work' = omega (arith, held .work-room, kept) in
-              count-as-send text work' (formOf T)
-              ∙ not-refused text work' work' (formOf T) (held .in-form .0) (held .short) room room (held .in-form .1)
+              count-as-send T text work' ∙ not-refused T text work' work' (held .short) room room (held .in-form .0) (held .in-form .1)
 
           -- so that it cannot refuse
           pub count-refused : (cause : Cause) → counting ≡ Refused cause
               → Agrees T text out work counts out' work'' counts (Agreement.Refused cause)
-          count-refused cause f = some-none counter-refusal cause (refused-answered counter-refusal (c .count) cause (sym (c .answer) ∙ f)) count-allowed
+          count-refused cause f = some-none (refused-given numbers-apart c cause f) count-allowed
 
           module _ (k : ℕ) (f : counting ≡ Number k) where
-            count-is : c .count ≡ k
-            count-is = number-answered counter-refusal (c .count) k (sym (c .answer) ∙ f) .1
+            count-is : c .value ≡ k
+            count-is = value-given numbers-apart c k f .1
 
-            both-written : Written file text out work out' work'' (s .count)
+            both-written : Written file text out work out' work'' (s .value)
             both-written =
-                let w = s .written (sent-given .0) in
-                let v = c .worked count-allowed in
+                let w = s .given (sent-given .0) .written in
+                let v = c .given count-allowed .worked in
                 record {
                   few = w .few;
                   out-length = w .out-length;
@@ -156,43 +146,43 @@ module _ (T : Tables) (text counts : List ℕ) where
                 }
 
             -- over tables that a build left both have the merge procedure's number
-            both-merged : (n : ℕ) → Built T n → s .count ≡ c .count
-            both-merged n B = s .built n B (sent-given .0) .0 ∙ sym (c .built n B count-allowed)
+            both-merged : (n : ℕ) → Built T n → s .value ≡ c .value
+            both-merged n B = s .given (sent-given .0) .built n B .count-is ∙ sym (c .given count-allowed .built n B)
 
             -- sender and counter differ: nothing is typed
             pub count-differs : (number ≡ k → ⊥) → Agrees T text out work counts out' work'' counts Agreement.Differ
             count-differs d =
-                let differ : s .count ≡ c .count → ⊥ = λ q. d (sym (sent-given .1) ∙ q ∙ count-is) in
-                compared-agrees out' work'' counts Agreement.Differ (s .count) (c .count) 0 (sent-given .0)
-                (sym (other-count refusal (s .count) (c .count) 0 (sent-given .0) differ))
-                (record { written = both-written; few-counted = c .few count-allowed; few-typed = omega arith; counts-length = refl; counts-beyond = refl; counts-kept = λ q. refl })
+                let differ : s .value ≡ c .value → ⊥ = λ q. d (sym (sent-given .1) ∙ q ∙ count-is) in
+                compared-agrees out' work'' counts Agreement.Differ (s .value) (c .value) 0 (sent-given .0)
+                (sym (other-count refusal (s .value) (c .value) 0 (sent-given .0) differ))
+                (record { written = both-written; few-counted = c .given count-allowed .few; few-typed = omega arith; counts-length = refl; counts-beyond = refl; counts-kept = λ q. refl })
                 (λ n B. absurd (differ (both-merged n B)))
 
             module _ (same : number ≡ k) (counts' : List ℕ) (t : ℕ) (typing : TypedCount T text counts counts' t) where
-              same-numbers : s .count ≡ c .count
+              same-numbers : s .value ≡ c .value
               same-numbers = sent-given .1 ∙ same ∙ sym count-is
 
               -- the text was typed
-              all-typed : (r : Agreement) → r ≡ agreementOf refusal (s .count) (c .count) (lastCount (typing .typed) counts')
+              all-typed : (r : Agreement) → r ≡ agreementOf refusal (s .value) (c .value) (lastCount (typing .typed) counts')
                   → Agrees T text out work counts out' work'' counts' r
               all-typed r is =
-                  let held = no-refusal text out work (formOf T) (sent-given .0) in
+                  let held = no-refusal T text out work (sent-given .0) in
                   let x = typing .text-typed in
-                  compared-agrees out' work'' counts' r (s .count) (c .count) (typing .typed) (sent-given .0) is
+                  compared-agrees out' work'' counts' r (s .value) (c .value) (typing .typed) (sent-given .0) is
                   (record {
                     written = both-written;
-                    few-counted = c .few count-allowed;
+                    few-counted = c .given count-allowed .few;
                     few-typed = let q = x .at-most in omega (arith, q);
                     counts-length = x .size-kept;
                     counts-beyond = x .beyond-kept;
                     counts-kept = λ d. absurd (d same-numbers);
                   })
                   (λ n B.
-                  let b = s .built n B (sent-given .0) in
+                  let b = s .given (sent-given .0) .built n B in
                   record {
-                    sent-is = b .0;
-                    counted-is = c .built n B count-allowed;
-                    codes = b .1;
+                    sent-is = b .count-is;
+                    counted-is = c .given count-allowed .built n B;
+                    codes = b .codes-are;
                     typed-is = let q = x .typed n B in omega (arith, q, held .short);
                     counts-are = x .counted n B;
                   })
@@ -200,10 +190,10 @@ module _ (T : Tables) (text counts : List ℕ) where
               pub typing-differs : (number ≡ t → ⊥) → Agrees T text out work counts out' work'' counts' Agreement.Differ
               typing-differs d =
                   all-typed Agreement.Differ
-                  (sym (other-last refusal (s .count) (c .count) (lastCount (typing .typed) counts') (sent-given .0) same-numbers (λ q. d (sym (sent-given .1) ∙ q ∙ sym (typing .is)))))
+                  (sym (other-last refusal (s .value) (c .value) (lastCount (typing .typed) counts') (sent-given .0) same-numbers (λ q. d (sym (sent-given .1) ∙ q ∙ sym (typing .is)))))
 
               pub all-agree : number ≡ t → Agrees T text out work counts out' work'' counts' (Agreement.Agree number)
               all-agree q =
                   all-typed (Agreement.Agree number)
                   (ap Agreement.Agree (sym (sent-given .1))
-                  ∙ sym (all-same refusal (s .count) (c .count) (lastCount (typing .typed) counts') (sent-given .0) same-numbers (sent-given .1 ∙ q ∙ typing .is)))
+                  ∙ sym (all-same refusal (s .value) (c .value) (lastCount (typing .typed) counts') (sent-given .0) same-numbers (sent-given .1 ∙ q ∙ typing .is)))

@@ -1,12 +1,11 @@
 -- Demand 3, whole, in the words of the mission, over the definitions that the contracts cite. Each premise is what the contract of a function ensures: a reader goes
 -- from it to that function in one step. Assumes nothing.
-use mathlib.Core.Path.{_≡_, refl, sym, ap, _∙_}
+use mathlib.Core.Path.{_≡_, refl, sym, ap, subst, _∙_}
 use mathlib.Core.Option.{none}
-use mathlib.Core.List.{List, [], _++_}
+use mathlib.Core.List.{List, [], _∷_, _++_}
 use Prim.Native.Nat.{ℕ, _-_, _<_}
 use lib.ListN.{length, take, drop}
 use lib.Seq.{take-at}
-use borrow.Author.Tests.{lt-ltb}
 use Rattle.causes.specs.declared.BuildAnswer.the-variants.{Rows}
 use Rattle.phrase_file.specs.Form.{rows}
 use Rattle.theory.specs.Dictionary.{Dictionary, Octets}
@@ -15,19 +14,20 @@ use Rattle.theory.specs.PairCheck.{passes}
 use Rattle.theory.specs.Typing.{Side}
 use Rattle.theory.specs.Tree.{intervalCount}
 use Rattle.theory.proofs.Demands.{ExactlyOne, demand-3-exactly-one}
+use Rattle.causes.specs.Call.{toPasses}
+use Rattle.causes.proofs.Calls.{rows-apart, numbers-apart, given-answer, value-given}
+use Rattle.causes.proofs.Unknown.{unknown-behind, unknown-none}
 use Rattle.tables.specs.Tables.{Tables}
-use Rattle.tables.specs.declared.Answer.{Answer}
-use Rattle.tables.specs.declared.Answer.the-variants.{Number}
-use Rattle.pair_check.specs.declared.PairAnswer.{PairAnswer}
-use Rattle.pair_check.specs.declared.PairAnswer.the-variants.{Passes}
-use Rattle.pair_check.specs.Pair.{pairAnswer, PairChecked}
+use Rattle.causes.specs.declared.Answer.{Answer}
+use Rattle.causes.specs.declared.Answer.the-variants.{Number}
+use Rattle.causes.specs.declared.PairAnswer.{PairAnswer}
+use Rattle.causes.specs.declared.PairAnswer.the-variants.{Passes}
+use Rattle.pair_check.specs.Pair.{pairRefusal, PairChecked}
 use Rattle.dictionary.specs.Build.{BuildIs}
-use Rattle.tables.specs.InForm.{formOf}
 use Rattle.built.specs.Built.{dictionaryOf, Built}
-use Rattle.built.proofs.InForm.{in-form}
+use Rattle.built.proofs.InForm.{in-form, ready}
 use Rattle.byte_pair_encoding.specs.Sending.{Sends}
 use Rattle.byte_pair_encoding.specs.Counting.{Counts}
-use Rattle.byte_pair_encoding.proofs.Promises.{number-answered}
 use Rattle.typing_book.specs.Run.{Lent, Event, OctetCalls, Run, AllAsTheBook}
 use Rattle.typing_book.proofs.Demand.{the-typing-book}
 use Rattle.interval_prepare.specs.Answers.{Prepares}
@@ -42,7 +42,7 @@ module _ (factor : ℕ) (lent T : Tables) (n : ℕ) (accepted : BuildIs factor l
 
   -- what the layers above use of it
   left : Built T n
-  left = accepted .accepted n refl .built
+  left = let v = value-given rows-apart accepted n refl in subst (λ (k : ℕ). Built T k) (v .1) (accepted .given (v .0) .built)
 
   -- 1. Of all code lists that spell a text exactly one has all neighbours passing the pair check, and it is the merge procedure's
   pub exactly-one : (text : List ℕ) → Octets text → ExactlyOne D text (encode D text)
@@ -53,17 +53,17 @@ module _ (factor : ℕ) (lent T : Tables) (n : ℕ) (accepted : BuildIs factor l
   pub sending : (text out work out' work' : List ℕ) (r : Answer) → Sends encode T text out work out' work' r
       → (count : ℕ) → r ≡ Number count → (count ≡ length (encode D text)) × (take count out' ≡ encode D text)
   sending text out work out' work' r s count e =
-      let given = number-answered _ (s .count) count (sym (s .answer) ∙ e) in
-      let codes = s .built n left (given .0) in
-      let same : count ≡ length (encode D text) = sym (given .1) ∙ codes .0 in
-      (same, ap (take count) (codes .1) ∙ take-at (encode D text) (drop (s .count) out) count (sym same))
+      let given = value-given numbers-apart s count e in
+      let codes = s .given (given .0) .built n left in
+      let same : count ≡ length (encode D text) = sym (given .1) ∙ codes .count-is in
+      (same, ap (take count) (codes .codes-are) ∙ take-at (encode D text) (drop (s .value) out) count (sym same))
 
   -- and counting, unless refused, gives its length. `count` ensures `Counts`
   pub counting : (text work work' : List ℕ) (r : Answer) → Counts T text work work' r
       → (count : ℕ) → r ≡ Number count → count ≡ length (encode D text)
   counting text work work' r s count e =
-      let given = number-answered _ (s .count) count (sym (s .answer) ∙ e) in
-      sym (given .1) ∙ s .built n left (given .0)
+      let given = value-given numbers-apart s count e in
+      sym (given .1) ∙ s .given (given .0) .built n left
 
   -- 3. For every list of typing calls, appending or prepending, from length 0 over one slice of any size and content, the refusals, counts and records are those of
   -- the typing book. `Run` holds, call by call, what `typing::push`, `extend`, `truncate` and `token_count` ensure
@@ -80,15 +80,16 @@ module _ (factor : ℕ) (lent T : Tables) (n : ℕ) (accepted : BuildIs factor l
       → (count : ℕ) → r ≡ Number count → count ≡ length (encode D (take (to - from) (drop from text)))
   unfolding intervalCount
   intervals text codes numbers ends depths work codes' numbers' ends' depths' work' m p from to scratch scratch' r c count e =
-      let prepared = p .built n left (number-answered _ (length text) m (sym (p .answer)) .0) in
-      let given = number-answered _ (c .count) count (sym (c .answer) ∙ e) in
-      sym (given .1) ∙ c .built n left prepared (given .0)
+      let prepared = p .given (value-given numbers-apart p m refl .0) .built n left in
+      let given = value-given numbers-apart c count e in
+      sym (given .1) ∙ c .given (given .0) .built n left prepared
 
   -- the pair check of the first sentence is the one that `is_valid_token_pair` answers, over tables as the build left them
   pub pairs : (token1 token2 : ℕ) (r : PairAnswer) → PairChecked T token1 token2 r
       → token1 < n → token2 < n → r ≡ Passes (passes D n token1 token2)
-  unfolding pairAnswer
+  unfolding pairRefusal
   pairs token1 token2 r c h k =
-      let known : pairAnswer (formOf T) token1 token2 (c .check) ≡ Passes (c .check) =
-      rw (in-form T n left, lt-ltb token1 n h, lt-ltb token2 n k) in
-      c .answer ∙ known ∙ ap Passes (c .built n left h k)
+      let counted : n ≡ length (rows file) = ready T n left .places-ready .count in
+      let known : pairRefusal T token1 token2 ≡ none =
+      rw (in-form T n left, ← counted, unknown-behind n token1 (token2 ∷ []) h, unknown-behind n token2 [] k, unknown-none n) in
+      given-answer toPasses c known ∙ ap Passes (c .given known n left)

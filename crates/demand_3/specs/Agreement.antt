@@ -10,8 +10,7 @@ use Rattle.causes.specs.declared.Cause.{Cause}
 use Rattle.theory.specs.Merge.{encode}
 use Rattle.theory.specs.Typing.{append, countAt}
 use Rattle.tables.specs.Tables.{Tables}
-use Rattle.tables.specs.InForm.{formOf}
-use Rattle.answers.specs.Refusals.{sendRefusal}
+use Rattle.byte_pair_encoding.specs.Refusals.{sendRefusal}
 use Rattle.built.specs.Built.{dictionaryOf, Built}
 use Rattle.byte_pair_encoding.specs.Sending.{Written}
 use Rattle.typing.specs.Text.{TextTyped}
@@ -67,11 +66,11 @@ pub record Agrees (T : Tables) (text out work counts out' work' counts' : List �
   pub sent : ℕ
   pub counted : ℕ
   pub typed : ℕ
-  pub answer : r ≡ agreementOf (sendRefusal text out work (formOf T)) sent counted (lastCount typed counts')
-  pub refused : (cause : Cause) → sendRefusal text out work (formOf T) ≡ some cause
+  pub answer : r ≡ agreementOf (sendRefusal T text out work) sent counted (lastCount typed counts')
+  pub refused : (cause : Cause) → sendRefusal T text out work ≡ some cause
       → (out' ≡ out) × (work' ≡ work) × (counts' ≡ counts)
-  pub compared : sendRefusal text out work (formOf T) ≡ none
+  pub compared : sendRefusal T text out work ≡ none
       → Compared (T .file) text out work counts out' work' counts' sent counted typed
-  pub merged : (n : ℕ) → Built T n → sendRefusal text out work (formOf T) ≡ none
+  pub merged : (n : ℕ) → Built T n → sendRefusal T text out work ≡ none
       → AsMerged (T .file) text out counts out' counts' sent counted typed
   pub built : (n : ℕ) → Built T n → Room text out work counts → r ≡ Agree (length (encode (dictionaryOf (T .file)) text))

@@ -1,9 +1,9 @@
 // The sender against the counters on one text: demand 3 as a promise about code. The whole demand is stated in proofs/Demand3.antt.
 ghost use Rattle.demand_3.specs.Agreement.{TypedCount, Agrees};
 ghost use Rattle.tables.specs.Tables.{lent, before, after};
+use causes::Answer;
 use causes::Cause;
 use placed_rows::wide;
-use tables::Answer;
 use typing_core::Side;
 
 // Whether the sender and the counters agree on a text.

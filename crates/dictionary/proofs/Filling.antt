@@ -19,8 +19,8 @@ use Rattle.parts.specs.Parts.{PartsFit, PartsFilled}
 use Rattle.parts.specs.Marking.{AreaKept}
 use Rattle.parts.proofs.Marking.{kept-all}
 use Rattle.tables.specs.Tables.{Tables, tables}
-use Rattle.dictionary.specs.Build.{sameHash, rowsAnswer, beyond}
-use Rattle.dictionary.specs.Steps.{Buildable, RowsFit, Searched, RowsFilled, TablesFilled}
+use Rattle.dictionary.specs.Build.{sameHash, beyond}
+use Rattle.dictionary.specs.Steps.{rowsAnswer, Buildable, RowsFit, Searched, RowsFilled, TablesFilled}
 use Rattle.dictionary.proofs.Sizes.{Large, large, not-short}
 use Rattle.dictionary.proofs.Rows as Table
 use Rattle.dictionary.proofs.Finding.{searched, is-built}

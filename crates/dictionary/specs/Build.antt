@@ -1,6 +1,7 @@
--- The answer of build, and what it leaves in the lent buffers: document 01, "Building" and "Causes". Assumes nothing.
+-- The answer of build, and what it leaves in the lent tables: document 01, "Building" and "Causes".
 use mathlib.Core.Path.{_≡_}
-use mathlib.Core.List.{List, [], _++_}
+use mathlib.Core.Option.{Option}
+use mathlib.Core.List.{List, [], _∷_, _++_}
 use mathlib.Core.Bool.{Bool, cond, _||_}
 use Prim.Native.Nat.{ℕ}
 use lib.ListN.{length, getD, drop, replicate}
@@ -8,15 +9,17 @@ use lib.Dec.{ltb, eqb}
 use Rattle.causes.specs.declared.Cause.{Cause}
 use Rattle.causes.specs.declared.Cause.the-variants.{FactorZero, SameHash, NoParts, TooShort}
 use Rattle.causes.specs.declared.BuildAnswer.{BuildAnswer}
-use Rattle.causes.specs.declared.BuildAnswer.the-variants.{Rows, Refused}
 use Rattle.causes.specs.Causes.{refusalOf}
+use Rattle.causes.specs.Order.{buildOrder, Condition, when, firstOf}
+use Rattle.causes.specs.Call.{Call, toRows}
 use Rattle.phrase_file.specs.Form.{rows}
-use Rattle.phrase_file.specs.Checks.{checkOf}
+use Rattle.phrase_file.specs.Checks.{fileConditions}
 use Rattle.placed_rows.specs.Rows.{none}
 use Rattle.fnv.specs.Fnv.{rowHash}
 use Rattle.clashes.specs.Clashes.{firstClash}
 use Rattle.parts.specs.Parts.{firstWithout}
 use Rattle.tables.specs.Tables.{Tables, tables}
+use Rattle.tables.specs.InForm.{count}
 use Rattle.built.specs.Built.{Built}
 
 -- cause 7: a table has fewer than n entries, or the search area fewer than 16,384
@@ -29,22 +32,18 @@ tooShort T n =
 unfoldable pub sameHash : List ℕ → ℕ → ℕ
 sameHash file factor = firstClash (λ i. rowHash (getD (rows file) i []) factor) (length (rows file))
 
--- the answer for a file with n rows that passes 2 to 4: the causes 7, 5 and 6, in this order
-unfoldable pub rowsAnswer : ℕ → Tables → ℕ → BuildAnswer
-rowsAnswer factor T n =
-    cond (tooShort T n) (Refused TooShort)
-    (cond (ltb (sameHash (T .file) factor) n) (Refused (SameHash (sameHash (T .file) factor)))
-    (cond (ltb (firstWithout (rows (T .file))) n) (Refused (NoParts (firstWithout (rows (T .file)))))
-    (Rows n)))
+-- the conditions of build: 1, 7, 5 and 6; and 2, 3 and 4 of the file. Of the tables only the sizes count
+abbrev pub buildConditions : ℕ → Tables → List Condition
+buildConditions factor T =
+    when (eqb factor 0) FactorZero
+    ∷ when (tooShort T (count (T .file))) TooShort
+    ∷ when (ltb (sameHash (T .file) factor) (count (T .file))) (SameHash (sameHash (T .file) factor))
+    ∷ when (ltb (firstWithout (rows (T .file))) (count (T .file))) (NoParts (firstWithout (rows (T .file))))
+    ∷ fileConditions (T .file)
 
--- the answer for a file whose checks 2 to 4 have this answer
-unfoldable pub checkedAnswer : ℕ → Tables → BuildAnswer → BuildAnswer
-checkedAnswer factor T (Rows n) = rowsAnswer factor T n
-checkedAnswer factor T (Refused cause) = Refused cause
-
--- the answer of build; of the buffers only the sizes count. Its order is 1, then 2, 3 and 4, then 7, 5 and 6
-unfoldable pub buildOf : ℕ → Tables → BuildAnswer
-buildOf factor T = cond (eqb factor 0) (Refused FactorZero) (checkedAnswer factor T (checkOf (T .file)))
+-- why a file is refused
+unfoldable pub buildRefusal : ℕ → Tables → Option Cause
+buildRefusal factor T = firstOf buildOrder (buildConditions factor T)
 
 -- the first `size` numbers of a buffer are none, the rest is unchanged
 unfoldable pub cleared : ℕ → List ℕ → List ℕ
@@ -56,9 +55,10 @@ allCleared n T =
     tables (T .file) (cleared n (T .places)) (cleared n (T .lefts)) (cleared n (T .rights)) (cleared n (T .prefixes))
     (cleared 16384 (T .area))
 
--- the buffers after a refusal, by its number ("Buffers after")
-unfoldable pub afterRefusal : ℕ → ℕ → Tables → Tables
-afterRefusal number n T = cond (eqb number 5 || eqb number 6) (allCleared n T) T
+-- the tables after a refusal ("Buffers after")
+unfoldable pub afterRefusal : Cause → Tables → Tables
+afterRefusal cause T =
+    cond (eqb (refusalOf cause .number) 5 || eqb (refusalOf cause .number) 6) (allCleared (count (T .file)) T) T
 
 -- the file, and what is beyond the first n of each table and the first 16,384 of the area
 abbrev pub beyond : ℕ → Tables → Tables
@@ -71,9 +71,7 @@ pub record Accepting (n : ℕ) (T T' : Tables) : Type 0 where
   pub built : Built T' n
   pub beyond-kept : beyond n T' ≡ beyond n T
 
--- the answer r and the tables T' that build leaves of T
-pub record BuildIs (factor : ℕ) (T T' : Tables) (r : BuildAnswer) : Type 0 where
-  pub answer : r ≡ buildOf factor T
-  pub refused : (cause : Cause) → r ≡ Refused cause
-      → T' ≡ afterRefusal (refusalOf cause .number) (length (rows (T .file))) T
-  pub accepted : (n : ℕ) → r ≡ Rows n → Accepting n T T'
+-- build: the answer is the count of rows, and T' the tables that it leaves of T
+abbrev pub BuildIs : (factor : ℕ) (T T' : Tables) → BuildAnswer → Type 0
+BuildIs factor T T' r =
+    Call toRows (buildRefusal factor T) (λ cause. T' ≡ afterRefusal cause T) (λ n. Accepting n T T') r

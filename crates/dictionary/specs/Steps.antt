@@ -1,17 +1,31 @@
--- The steps of build: what each requires, and what it leaves. Assumes nothing.
+-- The steps of build: what each requires, and what it leaves.
 use mathlib.Core.Path.{_≡_}
-use mathlib.Core.List.{List}
+use mathlib.Core.List.{List, [], _∷_}
 use mathlib.Core.Bool.{false}
 use Prim.Native.Nat.{ℕ, _≤_}
 use lib.ListN.{length, take, drop}
+use lib.Dec.{ltb}
 use Rattle.causes.specs.declared.BuildAnswer.{BuildAnswer}
 use Rattle.causes.specs.declared.BuildAnswer.the-variants.{Rows}
-use Rattle.phrase_file.specs.Form.{places}
+use Rattle.causes.specs.declared.Cause.the-variants.{SameHash, NoParts}
+use Rattle.causes.specs.Order.{buildOrder, when, firstOf}
+use Rattle.causes.specs.Call.{saying, toRows}
+use Rattle.phrase_file.specs.Form.{places, rows}
 use Rattle.phrase_file.specs.Checks.{checkOf}
 use Rattle.tables.specs.Tables.{Tables}
 use Rattle.built.specs.Built.{Built}
-use Rattle.parts.specs.Parts.{RowsFound, PrefixesFound}
-use Rattle.dictionary.specs.Build.{tooShort, sameHash, rowsAnswer, beyond}
+use Rattle.parts.specs.Parts.{firstWithout, RowsFound, PrefixesFound}
+use Rattle.dictionary.specs.Build.{tooShort, sameHash, beyond}
+
+-- the answer for a file that the causes 1 to 4 and 7 do not refuse: 5, 6, or the count of rows
+unfoldable pub rowsAnswer : ℕ → Tables → ℕ → BuildAnswer
+rowsAnswer factor T n =
+    saying toRows
+    (firstOf buildOrder
+    (when (ltb (sameHash (T .file) factor) n) (SameHash (sameHash (T .file) factor))
+    ∷ when (ltb (firstWithout (rows (T .file))) n) (NoParts (firstWithout (rows (T .file))))
+    ∷ []))
+    n
 
 -- a file with n rows that passes 2 to 4, a factor other than 0, and buffers that are large enough
 pub record Buildable (factor : ℕ) (T : Tables) (n : ℕ) : Type 0 where

@@ -3,8 +3,8 @@ use mathlib.Core.Path.{_≡_, subst}
 use mathlib.Core.List.{List}
 use Prim.Native.Nat.{ℕ}
 use Rattle.tables.specs.Tables.{Tables}
-use Rattle.tables.specs.declared.Answer.{Answer}
-use Rattle.answers.specs.Answers.{answerOf}
+use Rattle.causes.specs.declared.Answer.{Answer}
+use Rattle.causes.specs.Causes.{answerOf}
 use Rattle.typing_core.specs.Sides.{sideOf}
 use Rattle.typing_core.specs.declared.Side.{Side}
 use Rattle.typing.specs.declared.State.{State}

@@ -1,7 +1,7 @@
 // The interval calls for C, document 01's IntervalEncoding: each packs the answer of the public call of crate `interval_prepare` or `interval_count`.
 ghost use Rattle.tables.specs.Tables.{lent, before, after};
-ghost use Rattle.tables.specs.declared.Answer.{Answer};
-ghost use Rattle.answers.specs.Answers.{answerOf};
+ghost use Rattle.causes.specs.declared.Answer.{Answer};
+ghost use Rattle.causes.specs.Causes.{answerOf};
 ghost use Rattle.interval_prepare.specs.Answers.{Prepares};
 ghost use Rattle.interval_count.specs.Answers.{Counts};
 ghost use Rattle.exports.specs.Packed.{Packs};

@@ -2,31 +2,29 @@
 // Each returns one number: the cause's number (0 for an answer) times 2^32, plus the place or the answer's number.
 ghost use mathlib.Core.Path.{_≡_};
 ghost use mathlib.Core.List.{[], _∷_};
-ghost use Rattle.causes.specs.Causes.{buildAnswerOf};
+ghost use Rattle.causes.specs.declared.Answer.{Answer};
 ghost use Rattle.causes.specs.declared.BuildAnswer.{BuildAnswer};
+ghost use Rattle.causes.specs.declared.LimitAnswer.{LimitAnswer};
+ghost use Rattle.causes.specs.declared.PairAnswer.{PairAnswer};
+ghost use Rattle.causes.specs.Causes.{buildAnswerOf, answerOf, pairAnswerOf, limitAnswerOf};
 ghost use Rattle.tables.specs.Tables.{lent, left, before, after};
-ghost use Rattle.tables.specs.declared.Answer.{Answer};
-ghost use Rattle.tables.specs.Answers.{numTokensOf, tokenLenOf};
-ghost use Rattle.answers.specs.Answers.{answerOf};
-ghost use Rattle.pair_check.specs.declared.PairAnswer.{PairAnswer};
+ghost use Rattle.tables.specs.Answers.{NumTokens, TokenLen};
 ghost use Rattle.pair_check.specs.Pair.{PairChecked};
 ghost use Rattle.dictionary.specs.Build.{BuildIs};
 ghost use Rattle.theory.specs.Merge.{encode};
 ghost use Rattle.theory.specs.Shortest.{shortest, greedy};
 ghost use Rattle.decoder.specs.Decoding.{Decodes};
-ghost use Rattle.byte_pair_encoding.specs.declared.LimitAnswer.{LimitAnswer};
-ghost use Rattle.byte_pair_encoding.specs.Answers.{limitAnswerOf};
 ghost use Rattle.byte_pair_encoding.specs.Sending.{Sends};
 ghost use Rattle.byte_pair_encoding.specs.Counting.{Counts, CountsTillLimit};
-ghost use Rattle.exports.specs.Packed.{packed, packedOf, pairAnswerOf, Packs};
+ghost use Rattle.exports.specs.Packed.{packed, packedOf, Packs};
 
 mod intervals;
 mod typing_calls;
 
-use byte_pair_encoding::LimitAnswer;
+use causes::Answer;
 use causes::BuildAnswer;
-use pair_check::PairAnswer;
-use tables::Answer;
+use causes::LimitAnswer;
+use causes::PairAnswer;
 
 // A cause's number and its place in one number.
 pub fn pack(number: u32, place: u64) -> u64
@@ -43,10 +41,7 @@ pub fn pack(number: u32, place: u64) -> u64
 fn pack_answer(answer: Answer) -> u64
     ensures { λ r. ⌜ r ≡ packedOf (answerOf answer) ⌝ }
 {
-    pack(
-        answers::answer_number(answer),
-        answers::answer_place(answer),
-    )
+    pack(causes::answer_number(answer), causes::answer_place(answer))
 }
 
 // An answer of build.
@@ -59,31 +54,14 @@ fn pack_build_answer(answer: BuildAnswer) -> u64
     )
 }
 
-// The number of an answer of the pair check: 0 if it is no refusal.
-fn pair_answer_number(answer: PairAnswer) -> u32
-    ensures { λ r. ⌜ r ≡ pairAnswerOf answer .number ⌝ }
-{
-    match answer {
-        PairAnswer::Passes(_) => 0,
-        PairAnswer::Refused(cause) => causes::cause_number(cause),
-    }
-}
-
-// The place of an answer of the pair check: 1 if it passes, 0 if it does not.
-fn pair_answer_place(answer: PairAnswer) -> u64
-    ensures { λ r. ⌜ r ≡ pairAnswerOf answer .place ⌝ }
-{
-    match answer {
-        PairAnswer::Passes(passes) => { if passes { 1 } else { 0 } }
-        PairAnswer::Refused(cause) => causes::cause_place(cause),
-    }
-}
-
 // An answer of the pair check.
 fn pack_pair_answer(answer: PairAnswer) -> u64
     ensures { λ r. ⌜ r ≡ packedOf (pairAnswerOf answer) ⌝ }
 {
-    pack(pair_answer_number(answer), pair_answer_place(answer))
+    pack(
+        causes::pair_answer_number(answer),
+        causes::pair_answer_place(answer),
+    )
 }
 
 // An answer of a count with a limit.
@@ -91,8 +69,8 @@ fn pack_limit_answer(answer: LimitAnswer) -> u64
     ensures { λ r. ⌜ r ≡ packedOf (limitAnswerOf answer) ⌝ }
 {
     pack(
-        byte_pair_encoding::limit_answer_number(answer),
-        byte_pair_encoding::limit_answer_place(answer),
+        causes::limit_answer_number(answer),
+        causes::limit_answer_place(answer),
     )
 }
 
@@ -148,8 +126,7 @@ pub extern "C" fn bpe_num_tokens(
     prefixes: &[u32],
     area: &[u32],
 ) -> u64
-    ensures { λ r. ⌜ Packs answerOf (λ (a : Answer). a ≡ numTokensOf (lent file places lefts rights prefixes area))
-        r ⌝ }
+    ensures { λ r. ⌜ Packs answerOf (NumTokens (lent file places lefts rights prefixes area)) r ⌝ }
 {
     pack_answer(tables::num_tokens(file, places, lefts, rights, prefixes, area))
 }
@@ -164,8 +141,7 @@ pub extern "C" fn bpe_token_len(
     area: &[u32],
     token: u32,
 ) -> u64
-    ensures { λ r. ⌜ Packs answerOf (λ (a : Answer). a ≡ tokenLenOf (lent file places lefts rights prefixes area)
-        token) r ⌝ }
+    ensures { λ r. ⌜ Packs answerOf (TokenLen (lent file places lefts rights prefixes area) token) r ⌝ }
 {
     pack_answer(tables::token_len(file, places, lefts, rights, prefixes, area, token))
 }

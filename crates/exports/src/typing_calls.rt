@@ -4,8 +4,8 @@
 ghost use mathlib.Core.List.{[], _∷_};
 ghost use lib.ListN.{length};
 ghost use Rattle.tables.specs.Tables.{lent, before, after};
-ghost use Rattle.tables.specs.declared.Answer.{Answer};
-ghost use Rattle.answers.specs.Answers.{answerOf};
+ghost use Rattle.causes.specs.declared.Answer.{Answer};
+ghost use Rattle.causes.specs.Causes.{answerOf};
 ghost use Rattle.typing_core.specs.Sides.{sideOf, sideNumbered};
 ghost use Rattle.typing.specs.Calls.{Extended, TokenCounted, Truncated};
 ghost use Rattle.exports.specs.Packed.{Packs};

@@ -10,16 +10,18 @@ use lib.Seq.{length-take-le, drop-drop}
 use borrow.Author.Tests.{lt-ltb, le-ltb}
 use Rattle.causes.specs.declared.Cause.{Cause}
 use Rattle.causes.specs.declared.Cause.the-variants.{TooShort, OutOfForm, TooLong, BadInterval}
+use Rattle.causes.specs.declared.Answer.the-variants.{Number, Refused}
+use Rattle.causes.specs.Call.{toNumber}
+use Rattle.causes.proofs.Calls.{call-refused, call-given}
 use Rattle.phrase_file.proofs.Checks.{accepted}
 use Rattle.tables.specs.Tables.{Tables}
 use Rattle.tables.specs.declared.Form.{Form}
 use Rattle.tables.specs.declared.Form.the-variants.{Rows, Out}
-use Rattle.tables.specs.declared.Answer.the-variants.{Number, Refused}
 use Rattle.tables.specs.InForm.{formOf}
 use Rattle.tables.proofs.Readiness.{ready}
 use Rattle.interval_prepare.specs.Tables.{intervalInForm}
 use Rattle.interval_count.specs.Steps.{PieceReady, PieceCounts}
-use Rattle.interval_count.specs.Answers.{intervalRefusal, refusal, CoreReady, CoreCounts, Counts}
+use Rattle.interval_count.specs.Answers.{intervalRefusal, CoreReady, CoreCounts, Counts}
 use Rattle.interval_count.proofs.Forms.{Entries, entries}
 
 module _ (T : Tables) (n : ℕ) (text codes numbers ends depths : List ℕ) (from to : ℕ) (work : List ℕ)
@@ -72,15 +74,9 @@ module _ (T : Tables) (text codes numbers ends depths : List ℕ) (from to : ℕ
   abbrev form : Form
   form = formOf T
 
-  refused : (cause : Cause) → refusal T text codes numbers ends depths from to work ≡ some cause
+  refused : (cause : Cause) → intervalRefusal T text codes numbers ends depths from to work ≡ some cause
       → Counts T text codes numbers ends depths from to work work (Refused cause)
-  refused cause e = record {
-    count = 0;
-    answer = rw e;
-    refused = λ _ _. refl;
-    counted = λ f. absurd (let z : _≡_ {A = ℕ} 0 1 = cc in omega arith);
-    built = λ n B P f. absurd (let z : _≡_ {A = ℕ} 0 1 = cc in omega arith);
-  }
+  refused cause e = call-refused toNumber e 0 refl
 
   pub refused-long : 4096 < length text → Counts T text codes numbers ends depths from to work work (Refused TooLong)
   unfolding intervalRefusal
@@ -113,7 +109,7 @@ module _ (T : Tables) (text codes numbers ends depths : List ℕ) (from to : ℕ
             refused-end h = refused BadInterval (rw (le-ltb 4096 (length text) short, le-ltb (length work) (length text) room, e, i, le-ltb to from order, lt-ltb (length text) to h))
 
             module _ (inside : to ≤ length text) where
-              pub none-refused : refusal T text codes numbers ends depths from to work ≡ none
+              pub none-refused : intervalRefusal T text codes numbers ends depths from to work ≡ none
               unfolding intervalRefusal
               none-refused = rw (le-ltb 4096 (length text) short, le-ltb (length work) (length text) room, e, i, le-ltb to from order, le-ltb (length text) to inside)
 
@@ -127,12 +123,9 @@ module _ (T : Tables) (text codes numbers ends depths : List ℕ) (from to : ℕ
 
               pub counted : (r : ℕ) (work' : List ℕ) → CoreCounts T n text codes numbers ends depths from to work r work'
                   → Counts T text codes numbers ends depths from to work work' (Number r)
-              counted r work' C = record {
-                count = r;
-                answer = rw none-refused;
-                refused = λ cause f. absurd (let g = none-refused in let z : _≡_ {A = ℕ} 0 1 = cc in omega arith);
-                counted = λ _. C .counted;
-                built = λ m B P _.
+              counted r work' C = call-given toNumber none-refused r (record {
+                counted = C .counted;
+                built = λ m B P.
                     let q : m ≡ n = accepted file m (B .passed) .count ∙ sym (ready T n e .places-ready .count) in
                     C .built (rw q at B) P;
-              }
+              })

@@ -1,20 +1,20 @@
--- What the interval count of document 01 leaves and answers. Assumes nothing.
+-- What the interval count of document 01 leaves and answers.
 use mathlib.Core.Path.{_≡_}
-use mathlib.Core.Option.{Option, none, some}
-use mathlib.Core.List.{List}
+use mathlib.Core.Option.{Option}
+use mathlib.Core.List.{List, [], _∷_}
 use mathlib.Core.Bool.{Bool, true, not, _||_}
 use Prim.Native.Nat.{ℕ, _+_, _*_, _≤_}
 use lib.ListN.{length, drop}
 use lib.Dec.{ltb}
 use Rattle.causes.specs.declared.Cause.{Cause}
 use Rattle.causes.specs.declared.Cause.the-variants.{TooShort, OutOfForm, TooLong, BadInterval}
+use Rattle.causes.specs.declared.Answer.{Answer}
+use Rattle.causes.specs.Order.{otherOrder, when, over, shorter, firstOf}
+use Rattle.causes.specs.Call.{Call, toNumber}
 use Rattle.tables.specs.Tables.{Tables}
 use Rattle.tables.specs.declared.Form.{Form}
 use Rattle.tables.specs.declared.Form.the-variants.{Rows, Out}
-use Rattle.tables.specs.declared.Answer.{Answer}
 use Rattle.tables.specs.InForm.{formOf}
-use Rattle.answers.specs.Answers.{answered}
-use Rattle.answers.specs.Refusals.{when, over, shorter}
 use Rattle.theory.specs.Tree.{intervalCount}
 use Rattle.built.specs.Built.{dictionaryOf, Built}
 use Rattle.backtrack_encoder.specs.Encoder.{TextReady}
@@ -28,11 +28,6 @@ anyOut Out text lastCodes numbers ends depths = true
 -- the interval's start is above its end, or that is above the text's length
 abbrev pub badInterval : List ℕ → ℕ → ℕ → Bool
 badInterval text from to = ltb to from || ltb (length text) to
-
--- why the interval count is refused: 9, 7, 8, 11
-unfoldable pub intervalRefusal : Form → List ℕ → List ℕ → List ℕ → List ℕ → List ℕ → ℕ → ℕ → List ℕ → Option Cause
-intervalRefusal form text lastCodes numbers ends depths from to work =
-    when (over text) TooLong (when (shorter work text) TooShort (when (anyOut form text lastCodes numbers ends depths) OutOfForm (when (badInterval text from to) BadInterval none)))
 
 -- tables in form, a text of at most 4,096 bytes with a work buffer for it, interval tables in form and an interval of the text
 pub record CoreReady (T : Tables) (n : ℕ) (text lastCodes numbers ends depths : List ℕ) (from to : ℕ) (work : List ℕ) : Type 0 where
@@ -54,18 +49,23 @@ pub record CoreCounts (T : Tables) (n : ℕ) (text lastCodes numbers ends depths
   pub built : Built T n → Prepared (T .file) text lastCodes numbers ends depths → r ≡ intervalCount (dictionaryOf (T .file)) text from to
 
 module _ (T : Tables) (text lastCodes numbers ends depths : List ℕ) (from to : ℕ) (work : List ℕ) where
-  open Tables T using (file)
+  -- why the interval count is refused: 9, 7, 8, 11
+  unfoldable pub intervalRefusal : Option Cause
+  intervalRefusal =
+      firstOf otherOrder
+      (when (over text) TooLong
+      ∷ when (shorter work text) TooShort
+      ∷ when (anyOut (formOf T) text lastCodes numbers ends depths) OutOfForm
+      ∷ when (badInterval text from to) BadInterval
+      ∷ [])
 
-  -- the refusal of a call
-  abbrev pub refusal : Option Cause
-  refusal = intervalRefusal (formOf T) text lastCodes numbers ends depths from to work
+  -- a count that is not refused: over tables that build left and the prepared tables of the text the count of the piece,
+  -- the byte at the end not included. Which number it is elsewhere is free
+  pub record IntervalCounted (work' : List ℕ) (count : ℕ) : Type 0 where
+    pub counted : Counted text work count work'
+    pub built : (n : ℕ) → Built T n → Prepared (T .file) text lastCodes numbers ends depths
+        → count ≡ intervalCount (dictionaryOf (T .file)) text from to
 
-  -- `IntervalEncoding::count`: a refusal (9, 7, 8, 11) leaves the work buffer as it was; else the answer is a number, and over tables that build left
-  -- and the prepared tables of the text it is the count of the piece, the byte at the end not included. Which number it is elsewhere is free
-  pub record Counts (work' : List ℕ) (r : Answer) : Type 0 where
-    pub count : ℕ
-    pub answer : r ≡ answered refusal count
-    pub refused : (cause : Cause) → refusal ≡ some cause → work' ≡ work
-    pub counted : refusal ≡ none → Counted text work count work'
-    pub built : (n : ℕ) → Built T n → Prepared file text lastCodes numbers ends depths → refusal ≡ none
-        → count ≡ intervalCount (dictionaryOf file) text from to
+  -- `IntervalEncoding::count`: a refusal leaves the work buffer as it was
+  abbrev pub Counts : (work' : List ℕ) → Answer → Type 0
+  Counts work' r = Call toNumber intervalRefusal (λ cause. work' ≡ work) (IntervalCounted work') r

@@ -9,10 +9,10 @@ ghost use Rattle.tables.specs.Tables.{given, lent, before, after};
 use backtrack_encoder::BacktrackEncoder;
 use backtrack_encoder::step;
 use bitfield::all_set;
+use causes::Answer;
 use causes::Cause;
 use placed_rows::NONE;
 use placed_rows::wide;
-use tables::Answer;
 use tables::Form;
 
 // Whether a table of last codes has one entry per byte, each below n.

@@ -11,15 +11,18 @@ use lib.Dec.{leb}
 use borrow.Author.Tests.{lt-ltb, le-ltb, le-leb, lt-leb, ltb-false}
 use Rattle.causes.specs.declared.Cause.{Cause}
 use Rattle.causes.specs.declared.Cause.the-variants.{TooShort, OutOfForm, TooLong}
+use Rattle.causes.specs.declared.Answer.the-variants.{Number, Refused}
+use Rattle.causes.specs.Order.{shorter}
+use Rattle.causes.specs.Call.{toNumber}
+use Rattle.causes.proofs.Calls.{call-refused, call-given}
+use Rattle.causes.proofs.None.{neither}
 use Rattle.phrase_file.specs.Form.{rows}
 use Rattle.phrase_file.proofs.Checks.{accepted}
 use Rattle.tables.specs.Tables.{Tables, withoutPrefixes}
 use Rattle.tables.specs.declared.Form.{Form}
 use Rattle.tables.specs.declared.Form.the-variants.{Rows, Out}
-use Rattle.tables.specs.declared.Answer.the-variants.{Number, Refused}
 use Rattle.tables.specs.InForm.{formOf}
 use Rattle.tables.proofs.Readiness.{ready}
-use Rattle.answers.specs.Refusals.{shorter}
 use Rattle.theory.proofs.Lists.{lt-or-ge}
 use Rattle.interval_prepare.specs.Answers.{shortTree, tooShort, prepareRefusal, CoreReady, CorePrepares, Prepares}
 
@@ -64,11 +67,6 @@ module _ (text lastCodes numbers ends depths work : List ℕ) where
           le-ltb (length ends) (length text + 1) (omega arith),
         ) (short-tree depths text)
 
--- both tests fail
-neither : (a b : Bool) → a || b ≡ false → (a ≡ false) × (b ≡ false)
-neither false b e = (refl, e)
-neither true b e = absurd (let z : _≡_ {A = ℕ} 0 1 = cc in omega arith)
-
 -- the buffers are long enough
 pub record Roomy (text lastCodes numbers ends depths work : List ℕ) : Type 0 where
   pub codes-room : length text ≤ length lastCodes
@@ -98,14 +96,11 @@ module _ (T : Tables) (text lastCodes numbers ends depths work : List ℕ) where
   abbrev form : Form
   form = formOf T
 
-  refused : (cause : Cause) → prepareRefusal text lastCodes numbers ends depths work form ≡ some cause
+  refused : (cause : Cause) → prepareRefusal T text lastCodes numbers ends depths work ≡ some cause
       → Prepares T text lastCodes numbers ends depths work lastCodes numbers ends depths work (Refused cause)
-  refused cause e = record {
-    answer = rw e;
-    refused = λ _ _. record { last-codes = refl; numbers-same = refl; ends-same = refl; depths-same = refl; work-same = refl };
-    filled = λ f. absurd (let z : _≡_ {A = ℕ} 0 1 = cc in omega arith);
-    built = λ n B f. absurd (let z : _≡_ {A = ℕ} 0 1 = cc in omega arith);
-  }
+  refused cause e =
+      call-refused toNumber e 0
+      (record { last-codes = refl; numbers-same = refl; ends-same = refl; depths-same = refl; work-same = refl })
 
   pub refused-long : 4096 < length text
       → Prepares T text lastCodes numbers ends depths work lastCodes numbers ends depths work (Refused TooLong)
@@ -139,7 +134,7 @@ module _ (T : Tables) (text lastCodes numbers ends depths work : List ℕ) where
               work-room = r .work-room;
             }
 
-        none-refused : prepareRefusal text lastCodes numbers ends depths work form ≡ none
+        none-refused : prepareRefusal T text lastCodes numbers ends depths work ≡ none
         unfolding prepareRefusal
         none-refused = rw (le-ltb 4096 (length text) short, room, e)
 
@@ -148,11 +143,10 @@ module _ (T : Tables) (text lastCodes numbers ends depths work : List ℕ) where
             → Prepares T text lastCodes numbers ends depths work lastCodes' numbers' ends' depths' work' (Number (length text))
         prepared lastCodes' numbers' ends' depths' work' C =
             let rows-are : n ≡ length (rows file) = ready T n e .places-ready .count in
-            record {
-              answer = rw none-refused;
-              refused = λ cause f. absurd (let g = none-refused in let z : _≡_ {A = ℕ} 0 1 = cc in omega arith);
-              filled = λ _. rw (← rows-are) (C .filled);
-              built = λ m B _.
+            call-given toNumber none-refused (length text) (record {
+              number-is = refl;
+              filled = rw (← rows-are) (C .filled);
+              built = λ m B.
                   let q : m ≡ n = accepted file m (B .passed) .count ∙ sym rows-are in
                   C .built prefixes (rw q at B);
-            }
+            })

@@ -1,20 +1,19 @@
--- What preparation of document 01 leaves and answers. Assumes nothing.
+-- What preparation of document 01 leaves and answers.
 use mathlib.Core.Path.{_≡_}
-use mathlib.Core.Option.{Option, none, some}
-use mathlib.Core.List.{List}
+use mathlib.Core.Option.{Option}
+use mathlib.Core.List.{List, [], _∷_}
 use mathlib.Core.Bool.{Bool, true, _||_}
 use Prim.Native.Nat.{ℕ, _+_, _≤_, _<_}
 use lib.ListN.{length, drop}
 use lib.Dec.{ltb}
 use Rattle.causes.specs.declared.Cause.{Cause}
 use Rattle.causes.specs.declared.Cause.the-variants.{TooShort, OutOfForm, TooLong}
+use Rattle.causes.specs.declared.Answer.{Answer}
+use Rattle.causes.specs.Order.{otherOrder, when, over, shorter, firstOf}
+use Rattle.causes.specs.Call.{Call, toNumber}
 use Rattle.phrase_file.specs.Form.{rows}
 use Rattle.tables.specs.Tables.{Tables, PairTables, withPrefixes}
-use Rattle.tables.specs.declared.Form.{Form}
-use Rattle.tables.specs.declared.Answer.{Answer}
-use Rattle.tables.specs.InForm.{formOf}
-use Rattle.answers.specs.Answers.{answered}
-use Rattle.answers.specs.Refusals.{when, isOut, over, shorter}
+use Rattle.tables.specs.InForm.{isOut, formOf}
 use Rattle.built.specs.Built.{Built}
 use Rattle.end_code.specs.Tables.{PartsInForm}
 use Rattle.interval_prepare.specs.Steps.{WrittenTo}
@@ -28,11 +27,6 @@ shortTree table text = ltb (length table) (length text + 1)
 unfoldable pub tooShort : List ℕ → List ℕ → List ℕ → List ℕ → List ℕ → List ℕ → Bool
 tooShort text lastCodes numbers ends depths work =
     shorter lastCodes text || (shorter work text || (shortTree numbers text || (shortTree ends text || shortTree depths text)))
-
--- why preparation is refused: 9, 7, 8
-unfoldable pub prepareRefusal : List ℕ → List ℕ → List ℕ → List ℕ → List ℕ → List ℕ → Form → Option Cause
-prepareRefusal text lastCodes numbers ends depths work form =
-    when (over text) TooLong (when (tooShort text lastCodes numbers ends depths work) TooShort (when (isOut form) OutOfForm none))
 
 module _ (lastCodes numbers ends depths work lastCodes' numbers' ends' depths' work' : List ℕ) where
   -- all buffers are as before
@@ -71,16 +65,25 @@ pub record CorePrepares (P : PairTables) (n : ℕ) (text lastCodes numbers ends 
   pub built : (prefixes : List ℕ) → Built (withPrefixes P prefixes) n → Prepared (P .file) text lastCodes' numbers' ends' depths'
 
 module _ (T : Tables) (text lastCodes numbers ends depths work : List ℕ) where
-  open Tables T using (file)
+  -- why preparation is refused: 9, 7, 8
+  unfoldable pub prepareRefusal : Option Cause
+  prepareRefusal =
+      firstOf otherOrder
+      (when (over text) TooLong
+      ∷ when (tooShort text lastCodes numbers ends depths work) TooShort
+      ∷ when (isOut (formOf T)) OutOfForm
+      ∷ [])
 
-  -- the refusal of a call
-  abbrev pub refusal : Option Cause
-  refusal = prepareRefusal text lastCodes numbers ends depths work (formOf T)
+  -- preparation that is not refused: the answer is the number of prefixes filled, the text's length, and over tables that
+  -- build left the interval tables are the prepared ones of the text
+  pub record PreparesAll (lastCodes' numbers' ends' depths' work' : List ℕ) (number : ℕ) : Type 0 where
+    pub number-is : number ≡ length text
+    pub filled : Filled lastCodes numbers ends depths work lastCodes' numbers' ends' depths' work' text (length (rows (T .file)))
+    pub built : (n : ℕ) → Built T n → Prepared (T .file) text lastCodes' numbers' ends' depths'
 
-  -- `IntervalEncoding::new`: a refusal (9, 7, 8) leaves all buffers as they were; else the answer is the number of prefixes filled, the text's length,
-  -- and over tables that build left the interval tables are the prepared ones of the text
-  pub record Prepares (lastCodes' numbers' ends' depths' work' : List ℕ) (r : Answer) : Type 0 where
-    pub answer : r ≡ answered refusal (length text)
-    pub refused : (cause : Cause) → refusal ≡ some cause → Unchanged lastCodes numbers ends depths work lastCodes' numbers' ends' depths' work'
-    pub filled : refusal ≡ none → Filled lastCodes numbers ends depths work lastCodes' numbers' ends' depths' work' text (length (rows file))
-    pub built : (n : ℕ) → Built T n → refusal ≡ none → Prepared file text lastCodes' numbers' ends' depths'
+  -- `IntervalEncoding::new`: a refusal leaves all buffers as they were
+  abbrev pub Prepares : (lastCodes' numbers' ends' depths' work' : List ℕ) → Answer → Type 0
+  Prepares lastCodes' numbers' ends' depths' work' r =
+      Call toNumber prepareRefusal
+      (λ cause. Unchanged lastCodes numbers ends depths work lastCodes' numbers' ends' depths' work')
+      (PreparesAll lastCodes' numbers' ends' depths' work') r

@@ -7,8 +7,8 @@ use Rattle.placed_rows.specs.Rows.{row}
 use Rattle.search_area.specs.Answers.{Found}
 use Rattle.token_pair.specs.Pair.{PairIs}
 use Rattle.tables.specs.Tables.{Tables, PairTables}
-use Rattle.tables.specs.declared.Answer.{Answer}
-use Rattle.answers.specs.Answers.{answerOf}
+use Rattle.causes.specs.declared.Answer.{Answer}
+use Rattle.causes.specs.Causes.{answerOf}
 use Rattle.typing_core.specs.Sides.{sideOf}
 use Rattle.typing_core.specs.declared.Side.{Side}
 use Rattle.typing_core.specs.Columns.{ExtendedColumns}

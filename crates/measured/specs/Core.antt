@@ -6,8 +6,8 @@ use Prim.Native.Nat.{ℕ, _+_, _*_, _≤_, _<_}
 use lib.ListN.{length, getD}
 use Rattle.theory.specs.Tree.{intervalCount}
 use Rattle.tables.specs.Tables.{Tables}
-use Rattle.tables.specs.declared.Answer.{Answer}
-use Rattle.answers.specs.Answers.{answerOf}
+use Rattle.causes.specs.declared.Answer.{Answer}
+use Rattle.causes.specs.Causes.{answerOf}
 use Rattle.built.specs.Built.{dictionaryOf, Built}
 use Rattle.backtrack_encoder.specs.Encoder.{TextReady}
 use Rattle.interval_prepare.specs.Tables.{Prepared, intervalInForm}

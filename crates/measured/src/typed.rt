@@ -1,6 +1,6 @@
 // Typing from length 0 over lent columns: what push does for each byte, after one check of the tables.
 ghost use Rattle.tables.specs.Tables.{lent, before, after};
-ghost use Rattle.tables.specs.declared.Answer.{Answer};
+ghost use Rattle.causes.specs.declared.Answer.{Answer};
 ghost use Rattle.typing_core.specs.Sides.{sideOf, sideNumbered};
 ghost use Rattle.typing_core.specs.Columns.{ExtendedColumns};
 ghost use Rattle.measured.specs.Core.{Answers};
@@ -40,5 +40,5 @@ pub extern "C" fn measured_extend(
         counts,
         typed,
     );
-    answers::answer_place(answer)
+    causes::answer_place(answer)
 }

@@ -1,26 +1,28 @@
--- What the public pair check answers. Assumes nothing.
+-- What the public pair check answers.
 use mathlib.Core.Path.{_≡_}
-use mathlib.Core.List.{List}
-use mathlib.Core.Bool.{Bool, cond}
-use Prim.Native.Nat.{ℕ, _<_}
-use lib.Dec.{ltb}
-use Rattle.causes.specs.declared.Cause.the-variants.{OutOfForm, UnknownCode}
-use Rattle.tables.specs.Tables.{Tables}
-use Rattle.tables.specs.declared.Form.{Form}
-use Rattle.tables.specs.declared.Form.the-variants as Form
-use Rattle.tables.specs.InForm.{formOf}
+use mathlib.Core.Option.{Option}
+use mathlib.Core.List.{[], _∷_}
+use mathlib.Core.Bool.{Bool}
+use Prim.Native.Nat.{ℕ}
+use Rattle.causes.specs.declared.Cause.{Cause}
+use Rattle.causes.specs.declared.Cause.the-variants.{OutOfForm}
+use Rattle.causes.specs.declared.PairAnswer.{PairAnswer}
+use Rattle.causes.specs.Order.{otherOrder, when, unknown, firstOf}
+use Rattle.causes.specs.Call.{Call, toPasses, noBuffer}
 use Rattle.theory.specs.PairCheck.{passes}
+use Rattle.tables.specs.Tables.{Tables}
+use Rattle.tables.specs.InForm.{count, isOut, formOf}
 use Rattle.built.specs.Built.{dictionaryOf, Built}
-use Rattle.pair_check.specs.declared.PairAnswer.{PairAnswer}
-use Rattle.pair_check.specs.declared.PairAnswer.the-variants.{Passes, Refused}
 
--- tables out of form (8), the index of the first code not below n (10), else the answer of the check
-unfoldable pub pairAnswer : Form → ℕ → ℕ → Bool → PairAnswer
-pairAnswer Form.Out token1 token2 b = Refused OutOfForm
-pairAnswer (Form.Rows n) token1 token2 b = cond (ltb token1 n) (cond (ltb token2 n) (Passes b) (Refused (UnknownCode 1))) (Refused (UnknownCode 0))
+-- 8; 10 with index 0 for the left code and 1 for the right
+unfoldable pub pairRefusal : Tables → ℕ → ℕ → Option Cause
+pairRefusal T token1 token2 =
+    firstOf otherOrder (when (isOut (formOf T)) OutOfForm ∷ unknown (count (T .file)) (token1 ∷ token2 ∷ []) ∷ [])
 
--- the answer; over tables that build left, the check is the definition's, over all rows
-pub record PairChecked (T : Tables) (token1 token2 : ℕ) (r : PairAnswer) : Type 0 where
-  pub check : Bool
-  pub answer : r ≡ pairAnswer (formOf T) token1 token2 check
-  pub built : (n : ℕ) → Built T n → token1 < n → token2 < n → check ≡ passes (dictionaryOf (T .file)) n token1 token2
+-- over tables that build left the answer is the definition's, over all rows; elsewhere it is free
+abbrev pub PairIs : Tables → ℕ → ℕ → Bool → Type 0
+PairIs T token1 token2 b = (n : ℕ) → Built T n → b ≡ passes (dictionaryOf (T .file)) n token1 token2
+
+-- `is_valid_token_pair`
+abbrev pub PairChecked : (T : Tables) (token1 token2 : ℕ) → PairAnswer → Type 0
+PairChecked T token1 token2 r = Call toPasses (pairRefusal T token1 token2) noBuffer (PairIs T token1 token2) r

@@ -2,13 +2,8 @@
 ghost use Rattle.pair_check.specs.Pair.{PairChecked};
 ghost use Rattle.tables.specs.Tables.{lent};
 use causes::Cause;
+use causes::PairAnswer;
 use tables::Form;
-
-// The answer of the pair check.
-pub enum PairAnswer {
-    Passes(bool),
-    Refused(Cause),
-}
 
 // Whether token1 and token2 may stand beside each other.
 pub fn is_valid_token_pair(

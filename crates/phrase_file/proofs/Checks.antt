@@ -1,5 +1,6 @@
 -- The cases of the checks of a file, and what an accepted file is. Assumes nothing.
 use mathlib.Core.Path.{_≡_, refl, sym, _∙_}
+use mathlib.Core.Option.{none, some}
 use mathlib.Core.List.{List, [], _∷_}
 use mathlib.Core.Bool.{cond}
 use Prim.Native.Nat.{ℕ, _<_, _≤_}
@@ -10,6 +11,7 @@ use borrow.Author.Tests.{lt-ltb, le-ltb}
 use Rattle.causes.specs.declared.Cause.{Cause}
 use Rattle.causes.specs.declared.Cause.the-variants.{BadRecord, RowCount, MissingByte}
 use Rattle.causes.specs.declared.BuildAnswer.the-variants.{Rows, Refused}
+use Rattle.causes.specs.Call.{saying, toRows}
 use Rattle.phrase_file.specs.Form.{places, rows, recordsEnd}
 use Rattle.phrase_file.specs.Checks.{hasByte, missingByte, checkOf}
 use Rattle.phrase_file.proofs.Rows.{rows-count, end-inside}
@@ -44,7 +46,7 @@ pub record Counted (file : List ℕ) (n : ℕ) : Type 0 where
 
 module _ (file : List ℕ) (n : ℕ) (c : Counted file n) where
   -- then only the missing byte decides
-  passed : checkOf file ≡ cond (ltb (missingByte file) 256) (Refused (MissingByte (missingByte file))) (Rows n)
+  passed : checkOf file ≡ saying toRows (cond (ltb (missingByte file) 256) (some (MissingByte (missingByte file))) none) n
   unfolding checkOf
   passed =
       rw

@@ -1,12 +1,13 @@
--- The refusals 2, 3 and 4 of document 01, in this order. Assumes nothing.
+-- The refusals 2, 3 and 4 of document 01, in this order.
 use mathlib.Core.List.{List, [], _∷_}
-use mathlib.Core.Bool.{Bool, true, false, cond, _||_}
+use mathlib.Core.Bool.{Bool, true, false, _||_}
 use Prim.Native.Nat.{ℕ, zero, suc}
 use lib.ListN.{length}
 use lib.Dec.{ltb, eqb}
 use Rattle.causes.specs.declared.Cause.the-variants.{BadRecord, RowCount, MissingByte}
 use Rattle.causes.specs.declared.BuildAnswer.{BuildAnswer}
-use Rattle.causes.specs.declared.BuildAnswer.the-variants.{Rows, Refused}
+use Rattle.causes.specs.Order.{buildOrder, Condition, when, firstOf}
+use Rattle.causes.specs.Call.{saying, toRows}
 use Rattle.phrase_file.specs.Form.{rows, recordsEnd}
 
 -- whether a row is the one byte b
@@ -29,12 +30,16 @@ firstNot (suc k) test b = elim (test b) [ true ↦ firstNot k test (suc b) | fal
 unfoldable pub missingByte : List ℕ → ℕ
 missingByte file = firstNot 256 (hasByte (rows file)) 0
 
--- the answer of these checks: a file over 65,536 bytes, or a bad mark, length or cut record (2);
--- n under 256 or over 4,096 (3); a byte value without a row (4); else the count of rows
+-- the conditions 2, 3 and 4: a file over 65,536 bytes, or a bad mark, length or cut record; n under 256 or over 4,096; a
+-- byte value without a row
+abbrev pub fileConditions : List ℕ → List Condition
+fileConditions file =
+    when (ltb 65536 (length file)) (BadRecord 65536)
+    ∷ when (ltb (recordsEnd file) (length file)) (BadRecord (recordsEnd file))
+    ∷ when (ltb (length (rows file)) 256 || ltb 4096 (length (rows file))) (RowCount (length (rows file)))
+    ∷ when (ltb (missingByte file) 256) (MissingByte (missingByte file))
+    ∷ []
+
+-- the answer of these checks: the first that applies, else the count of rows
 unfoldable pub checkOf : List ℕ → BuildAnswer
-checkOf file =
-    cond (ltb 65536 (length file)) (Refused (BadRecord 65536))
-    (cond (ltb (recordsEnd file) (length file)) (Refused (BadRecord (recordsEnd file)))
-    (cond (ltb (length (rows file)) 256 || ltb 4096 (length (rows file))) (Refused (RowCount (length (rows file))))
-    (cond (ltb (missingByte file) 256) (Refused (MissingByte (missingByte file)))
-    (Rows (length (rows file))))))
+checkOf file = saying toRows (firstOf buildOrder (fileConditions file)) (length (rows file))

@@ -1,6 +1,7 @@
 // Building, and the calls that need no text.
+use causes::Answer;
 use causes::BuildAnswer;
-use pair_check::PairAnswer;
+use causes::PairAnswer;
 use script_lines::canary::cleared;
 use script_lines::canary::fill;
 use script_lines::canary::kept;
@@ -26,7 +27,6 @@ use script_lines::sizes::SearchArea;
 use script_lines::sizes::Sizes;
 use script_lines::sizes::Table;
 use script_lines::sizes::lent;
-use tables::Answer;
 use words::front;
 use words::say;
 use words::say_field;
@@ -159,8 +159,8 @@ fn set_entry(
 
 // The number and the place of an answer.
 pub fn say_answer(answer: Answer) {
-    say_field(answers::answer_number(answer) as u64);
-    say_field(answers::answer_place(answer));
+    say_field(causes::answer_number(answer) as u64);
+    say_field(causes::answer_place(answer));
 }
 
 // The same of the pair check: 1 if the pair passes, else 0.

@@ -1,6 +1,7 @@
 // Sending, counting and decoding over the text and the codes that were set.
 use crate::building::ask;
 use crate::building::say_answer;
+use causes::Answer;
 use script_lines::canary::CANARY;
 use script_lines::canary::fill;
 use script_lines::canary::kept;
@@ -15,7 +16,6 @@ use script_lines::sizes::Sizes;
 use script_lines::sizes::WORK;
 use script_lines::sizes::lent;
 use script_lines::sizes::lent_bytes;
-use tables::Answer;
 use words::front;
 use words::front_numbers;
 use words::say;
@@ -215,9 +215,9 @@ fn count_till_limit(
         limit,
         lent(&mut work, sizes[WORK]),
     );
-    let number = byte_pair_encoding::limit_answer_number(answer) as u64;
+    let number = causes::limit_answer_number(answer) as u64;
     say_field(number);
-    say_field(byte_pair_encoding::limit_answer_place(answer));
+    say_field(causes::limit_answer_place(answer));
     if number == 0 {
         say_kept(kept(&work, text.len()));
     } else {

@@ -18,8 +18,9 @@ use Rattle.phrase_file.proofs.Rows.{RowIs, row-is}
 use Rattle.placed_rows.specs.Rows.{none, row}
 use Rattle.placed_rows.proofs.Beginning.{and-both}
 use Rattle.tables.specs.Tables.{Tables}
+use Rattle.tables.specs.declared.Form.{Form}
 use Rattle.tables.specs.declared.Form.the-variants as Form
-use Rattle.tables.specs.InForm.{rowSize, prefixInForm, partsInForm, rowInForm, formOf}
+use Rattle.tables.specs.InForm.{rowSize, prefixInForm, partsInForm, rowInForm, formOf, isOut}
 use Rattle.tables.specs.Ready.{Lower, PartsReady, PlacesReady, PrefixesReady, Ready}
 use Rattle.tables.proofs.Facts.{Facts, form-facts, facts-form}
 
@@ -150,3 +151,11 @@ module _ (T : Tables) (n : ℕ) where
           (λ e. let q = s .single c h (sym e) in inl (record { left = q .0; right = q .1; one = sym e }))
           (λ l. inr (s .lower c h l))
           (eq-or-lt-of-le o)
+
+-- tables that are not out of form are in form, with some n
+pub form-rows : (T : Tables) → isOut (formOf T) ≡ false → (n : ℕ) × (formOf T ≡ Form.Rows n)
+form-rows T e = go (formOf T) refl e
+  where
+    go : (f : Form) → formOf T ≡ f → isOut f ≡ false → (n : ℕ) × (formOf T ≡ Form.Rows n)
+    go (Form.Rows n) q _ = (n, q)
+    go Form.Out q z = absurd (let y : _≡_ {A = ℕ} 0 1 = cc in omega arith)

@@ -1,29 +1,27 @@
--- What the calls answer that need only the file and tables in form. Assumes nothing.
-use mathlib.Core.List.{List}
-use mathlib.Core.Bool.{cond}
+-- What the calls answer that need only the file and tables in form.
+use mathlib.Core.Path.{_≡_}
+use mathlib.Core.Option.{Option}
+use mathlib.Core.List.{List, [], _∷_}
 use Prim.Native.Nat.{ℕ}
-use lib.Dec.{ltb}
-use Rattle.causes.specs.declared.Cause.the-variants.{OutOfForm, UnknownCode}
+use Rattle.causes.specs.declared.Cause.{Cause}
+use Rattle.causes.specs.declared.Cause.the-variants.{OutOfForm}
+use Rattle.causes.specs.declared.Answer.{Answer}
+use Rattle.causes.specs.Order.{otherOrder, when, unknown, firstOf}
+use Rattle.causes.specs.Call.{Call, toNumber, noBuffer}
 use Rattle.tables.specs.Tables.{Tables}
-use Rattle.tables.specs.declared.Form.{Form}
-use Rattle.tables.specs.declared.Form.the-variants as Form
-use Rattle.tables.specs.declared.Answer.{Answer}
-use Rattle.tables.specs.declared.Answer.the-variants.{Number, Refused}
-use Rattle.tables.specs.InForm.{rowSize, formOf}
+use Rattle.tables.specs.InForm.{count, rowSize, isOut, formOf}
 
--- tables out of form are refused (8); else the answer depends on n
-unfoldable pub whenInForm : Form → (ℕ → Answer) → Answer
-whenInForm (Form.Rows n) answer = answer n
-whenInForm Form.Out answer = Refused OutOfForm
+-- `num_tokens`: 8, or n
+unfoldable pub numTokensRefusal : Tables → Option Cause
+numTokensRefusal T = firstOf otherOrder (when (isOut (formOf T)) OutOfForm ∷ [])
 
-module _ (T : Tables) where
-  open Tables T using (file)
+abbrev pub NumTokens : Tables → Answer → Type 0
+NumTokens T r = Call toNumber (numTokensRefusal T) noBuffer (λ n. n ≡ count (T .file)) r
 
-  -- `num_tokens`: n
-  unfoldable pub numTokensOf : Answer
-  numTokensOf = whenInForm (formOf T) Number
+-- `token_len`: 8, 10, or the number of the row's bytes
+unfoldable pub tokenLenRefusal : Tables → ℕ → Option Cause
+tokenLenRefusal T token =
+    firstOf otherOrder (when (isOut (formOf T)) OutOfForm ∷ unknown (count (T .file)) (token ∷ []) ∷ [])
 
-  -- `token_len`: the number of the row's bytes; a code not below n is refused (10, index 0)
-  unfoldable pub tokenLenOf : ℕ → Answer
-  tokenLenOf token =
-      whenInForm (formOf T) (λ (n : ℕ). cond (ltb token n) (Number (rowSize file token)) (Refused (UnknownCode 0)))
+abbrev pub TokenLen : Tables → ℕ → Answer → Type 0
+TokenLen T token r = Call toNumber (tokenLenRefusal T token) noBuffer (λ size. size ≡ rowSize (T .file) token) r

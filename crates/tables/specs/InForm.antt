@@ -69,3 +69,8 @@ module _ (T : Tables) where
   -- the same as an answer, with n
   unfoldable pub formOf : Form
   formOf = cond inForm (Form.Rows (count file)) Form.Out
+
+-- tables out of form
+abbrev pub isOut : Form → Bool
+isOut (Form.Rows n) = false
+isOut Form.Out = true

@@ -4,8 +4,9 @@ ghost use Prim.Native.Nat.{_<_};
 ghost use Rattle.placed_rows.specs.Texts.{Small};
 ghost use Rattle.tables.specs.Tables.{lent};
 ghost use Rattle.tables.specs.InForm.{allBelow, prefixInForm, partsInForm, rowInForm, formOf};
-ghost use Rattle.tables.specs.Answers.{numTokensOf, tokenLenOf};
+ghost use Rattle.tables.specs.Answers.{NumTokens, TokenLen};
 ghost use Rattle.tables.specs.Steps.{Passed, PlacesMatch, RowOf, Room, sized};
+use causes::Answer;
 use causes::BuildAnswer;
 use causes::Cause;
 use placed_rows::NONE;
@@ -17,12 +18,6 @@ pub enum Form {
     // The count of rows.
     Rows(usize),
     Out,
-}
-
-// A number, or why there is none.
-pub enum Answer {
-    Number(usize),
-    Refused(Cause),
 }
 
 // A length byte as a number of bytes.
@@ -157,7 +152,7 @@ pub fn num_tokens(
     prefixes: &[u32],
     area: &[u32],
 ) -> Answer
-    ensures { λ r. ⌜ r ≡ numTokensOf (lent file places lefts rights prefixes area) ⌝ }
+    ensures { λ r. ⌜ NumTokens (lent file places lefts rights prefixes area) r ⌝ }
 {
     match tables_in_form(file, places, lefts, rights, prefixes, area) {
         Form::Rows(n) => Answer::Number(n),
@@ -175,7 +170,7 @@ pub fn token_len(
     area: &[u32],
     token: u32,
 ) -> Answer
-    ensures { λ r. ⌜ r ≡ tokenLenOf (lent file places lefts rights prefixes area) token ⌝ }
+    ensures { λ r. ⌜ TokenLen (lent file places lefts rights prefixes area) token r ⌝ }
 {
     let Form::Rows(n) = tables_in_form(file, places, lefts, rights, prefixes, area) else {
         return Answer::Refused(Cause::OutOfForm);

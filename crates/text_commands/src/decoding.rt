@@ -1,4 +1,5 @@
 // `phrases decode FILE TEXT`
+use causes::Answer;
 use causes::Cause;
 use code_list::Codes;
 use code_list::Listed;
@@ -6,7 +7,6 @@ use code_list::list_codes;
 use code_list::run;
 use refusal_words::say_cause;
 use refusal_words::say_cause_result;
-use tables::Answer;
 use tool_files::say_argument;
 use tool_files::say_error_result;
 use tool_files::say_many;

@@ -1,10 +1,10 @@
 // `phrases why FILE ROW ROW`
+use causes::Answer;
 use causes::Cause;
-use pair_check::PairAnswer;
+use causes::PairAnswer;
 use refusal_words::say_cause;
 use refusal_words::say_cause_result;
 use refusal_words::say_row;
-use tables::Answer;
 use tool_files::say_argument;
 use tool_files::say_error_result;
 use tool_files::say_many;

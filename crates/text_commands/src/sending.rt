@@ -1,7 +1,7 @@
 // `phrases encode`, `shortest` and `count`: the codes of a text, and their number.
+use causes::Answer;
 use refusal_words::say_cause_result;
 use refusal_words::say_refusal;
-use tables::Answer;
 use tool_files::say_bursts;
 use tool_files::say_fields;
 use words::front_numbers;

@@ -11,8 +11,9 @@ use Rattle.theory.specs.Typing.{Side, entryAt, codeAt, countAt}
 use Rattle.causes.specs.declared.Cause.{Cause}
 use Rattle.tables.specs.Tables.{Tables}
 use Rattle.tables.specs.InForm.{formOf}
-use Rattle.tables.specs.declared.Answer.{Answer}
-use Rattle.answers.specs.Answers.{answered}
+use Rattle.causes.specs.declared.Answer.{Answer}
+use Rattle.causes.specs.Call.{saying, toNumber}
+use Rattle.causes.proofs.Calls.{call-of, answer-with}
 use Rattle.built.specs.Built.{dictionaryOf, Built}
 use Rattle.typing_core.specs.Refusals.{headOut, extendRefusal, tokenCountRefusal}
 use Rattle.typing_core.specs.Columns.{lastCount, Typed, ExtendedColumns, CountedColumns}
@@ -21,7 +22,7 @@ use Rattle.typing.specs.Records.{noState, entryOf, bytesOf, countsOf}
 use Rattle.typing.specs.Steps.{usableOf, endAfter, Room, ColumnsReady, Copied, Places, Stored}
 use Rattle.typing.specs.Calls.{Extended, TokenCounted}
 use Rattle.typing.proofs.Ending.{usable-out, usable-in, end-refused, end-given}
-use Rattle.typing.proofs.Refusals.{head-fits, counted-in, Extends, extends, answered-same}
+use Rattle.typing.proofs.Refusals.{head-fits, counted-in, Extends, extends}
 use Rattle.typing.proofs.Agreeing.{all-copied, form-same, last-same}
 
 usable-room : (len size : ℕ) → Room (usableOf len size) size
@@ -52,21 +53,26 @@ module _ (T : Tables) (side : Side) (states : List State) (bytes codes counts : 
       subst (λ (m : ℕ). TokenCounted T side m states r) is record {
         fine = counted .fine;
         form = form-same states at bytes codes counts all T side (counted .fine) (counted .form);
-        answer = counted .answer
-            ∙ answered-same (tokenCountRefusal (formOf T) at (length states) (counted .fine)) (lastCount counts at) (lastCount (countsOf states) at)
-            (λ o. last-same states at bytes codes counts all (counted-in (formOf T) at (length states) (counted .fine) o));
+        call =
+            let number-is : tokenCountRefusal T at (length states) (counted .fine) ≡ none → counted .call .value ≡ lastCount (countsOf states) at =
+            λ o. counted .call .given o ∙ last-same states at bytes codes counts all (counted-in T at (length states) (counted .fine) o) in
+            call-of toNumber (lastCount (countsOf states) at) (answer-with toNumber (counted .call) (lastCount (countsOf states) at) number-is)
+            (λ cause o. record {}) (λ o. refl);
       }
 
   module _ (typed bytes' codes' counts' : List ℕ) (len : ℕ) (r : Answer)
       (done : ExtendedColumns T side len (length states) bytes codes counts typed r bytes' codes' counts') where
     abbrev refusal : Option Cause
-    refusal = extendRefusal (formOf T) len (length states) (done .fine) typed
+    refusal = extendRefusal T len (length states) (done .fine) typed
 
-    end-is : (end : ℕ) → end ≡ endAfter r len → end ≡ endAfter (answered refusal (len + length typed)) len
-    end-is end e = e ∙ ap (λ (a : Answer). endAfter a len) (done .answer)
+    answer : r ≡ saying toNumber refusal (len + length typed)
+    answer = answer-with toNumber (done .call) (len + length typed) (λ o. done .call .given o .number-is)
+
+    end-is : (end : ℕ) → end ≡ endAfter r len → end ≡ endAfter (saying toNumber refusal (len + length typed)) len
+    end-is end e = e ∙ ap (λ (a : Answer). endAfter a len) answer
 
     fits : refusal ≡ none → Extends len (length states) typed
-    fits = extends (formOf T) len (length states) (done .fine) typed
+    fits = extends T len (length states) (done .fine) typed
 
     -- the places that a call stores to
     pub places : (end : ℕ) → end ≡ endAfter r len → Places len end (length states)
@@ -82,14 +88,14 @@ module _ (T : Tables) (side : Side) (states : List State) (bytes codes counts : 
     module _ (copied : Copied states (usableOf len (length states)) bytes codes counts) (end len' : ℕ) (states' : List State) (e : end ≡ endAfter r len) (l : len' ≡ end)
         (stored : Stored states len end bytes' codes' counts' states') where
       -- a record added
-      entry : (n : ℕ) → Built T n → refusal ≡ none → (k : ℕ) → k < length typed
+      entry : refusal ≡ none → (n : ℕ) → Built T n → (k : ℕ) → k < length typed
           → entryOf (getD states' (len + k) noState) ≡ entryAt (dictionaryOf file) side (take len (bytesOf states) ++ typed) (len + k)
       unfolding entryAt
-      entry n b o k h =
+      entry o n b k h =
           let so = fits o in
           let longer : end ≡ len + length typed = end-is end e ∙ end-given refusal (len + length typed) len o in
           let text : take len bytes ≡ take len (bytesOf states) = all-copied states len bytes codes counts copied (so .head-in) .bytes-are in
-          let is : Typed T side len (length states) bytes codes counts typed bytes' codes' counts' k = done .built n b o k h in
+          let is : Typed T side len (length states) bytes codes counts typed bytes' codes' counts' k = done .call .given o .built n b k h in
           let long : length (take len (bytesOf states)) ≡ len =
           length-take-le len (bytesOf states) (subst (λ (m : ℕ). len ≤ m) (sym (length-map states (λ (s : State). s .byte))) (head-fits len (length states) (so .head-in) .0)) in
           let byte : getD bytes' (len + k) 0 ≡ getD (take len (bytesOf states) ++ typed) (len + k) 0 =
@@ -104,16 +110,19 @@ module _ (T : Tables) (side : Side) (states : List State) (bytes codes counts : 
       extended-at = record {
         fine = done .fine;
         form = form-same states len bytes codes counts copied T side (done .fine) (done .form);
-        answer = done .answer;
-        refused = λ cause o.
+        call = call-of toNumber (len + length typed) answer
+            (λ cause o.
             let same : end ≡ len = end-is end e ∙ end-refused refusal (len + length typed) len cause o in
             let beyond : drop len states' ≡ drop len states = subst (λ (m : ℕ). drop m states' ≡ drop m states) same (stored .beyond-kept) in
-            (l ∙ same, sym (take-append-drop len states') ∙ (λ j. stored .before-kept j ++ beyond j) ∙ take-append-drop len states);
-        longer = λ o. l ∙ end-is end e ∙ end-given refusal (len + length typed) len o;
+            (l ∙ same, sym (take-append-drop len states') ∙ (λ j. stored .before-kept j ++ beyond j) ∙ take-append-drop len states))
+            (λ o. record {
+              number-is = refl;
+              longer = l ∙ end-is end e ∙ end-given refusal (len + length typed) len o;
+              built = entry o;
+            });
         size-kept = stored .size-kept;
         before-kept = stored .before-kept;
         beyond-kept = subst (λ (m : ℕ). drop m states' ≡ drop m states) (sym l) (stored .beyond-kept);
-        built = entry;
       }
 
   pub extended : (typed bytes' codes' counts' : List ℕ) (len at k end len' : ℕ) (r : Answer) (states' : List State) → at ≡ len → k ≡ usableOf at (length states)

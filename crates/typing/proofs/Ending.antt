@@ -1,16 +1,18 @@
 -- What an answer leaves in the head. Assumes nothing.
-use mathlib.Core.Path.{_≡_, _∙_, ap, subst}
+use mathlib.Core.Path.{_≡_, refl, _∙_, ap, subst}
+use mathlib.Core.List.{[], _∷_}
 use mathlib.Core.Bool.{Bool, true, false, cond, _||_}
 use mathlib.Core.Option.{Option, none, some}
 use Prim.Native.Nat.{ℕ, _<_, _≤_, min}
 use lib.Dec.{ltb}
 use borrow.Author.Tests.{lt-ltb, le-ltb}
 use Rattle.causes.specs.declared.Cause.{Cause}
-use Rattle.tables.specs.declared.Answer.{Answer}
-use Rattle.tables.specs.declared.Answer.the-variants.{Number, Refused}
+use Rattle.causes.specs.declared.Answer.{Answer}
+use Rattle.causes.specs.Order.{otherOrder, when, firstOf}
+use Rattle.causes.specs.Call.{saying, toNumber}
+use Rattle.causes.proofs.Calls.{call-of}
+use Rattle.causes.specs.declared.Answer.the-variants.{Number, Refused}
 use Rattle.causes.specs.declared.Cause.the-variants.{OutOfForm}
-use Rattle.answers.specs.Answers.{answered}
-use Rattle.answers.specs.Refusals.{when}
 use Rattle.typing_core.specs.Refusals.{headOut, truncateRefusal}
 use Rattle.typing.specs.Calls.{Truncated}
 use Rattle.typing.specs.Steps.{usableOf, endAfter}
@@ -33,25 +35,27 @@ pub usable-in : (len size : ℕ) → headOut len size ≡ false → usableOf len
 unfolding usableOf
 usable-in len size e = ap (λ (b : Bool). cond b 0 len) e
 
-pub cut-out : (len size n : ℕ) → headOut len size ≡ true → answered (truncateRefusal len size) n ≡ Refused OutOfForm
+pub cut-out : (len size n : ℕ) → headOut len size ≡ true → saying toNumber (truncateRefusal len size) n ≡ Refused OutOfForm
 unfolding truncateRefusal
-cut-out len size n e = ap (λ (b : Bool). answered (when b OutOfForm none) n) e
+cut-out len size n e = ap (λ (b : Bool). saying toNumber (firstOf otherOrder (when b OutOfForm ∷ [])) n) e
 
-pub cut-in : (len size n : ℕ) → headOut len size ≡ false → answered (truncateRefusal len size) n ≡ Number n
+pub cut-in : (len size n : ℕ) → headOut len size ≡ false → saying toNumber (truncateRefusal len size) n ≡ Number n
 unfolding truncateRefusal
-cut-in len size n e = ap (λ (b : Bool). answered (when b OutOfForm none) n) e
+cut-in len size n e = ap (λ (b : Bool). saying toNumber (firstOf otherOrder (when b OutOfForm ∷ [])) n) e
 
 -- ---- the length after a call
-pub end-refused : (o : Option Cause) (n len : ℕ) (cause : Cause) → o ≡ some cause → endAfter (answered o n) len ≡ len
-end-refused o n len cause e = ap (λ (p : Option Cause). endAfter (answered p n) len) e
+pub end-refused : (o : Option Cause) (n len : ℕ) (cause : Cause) → o ≡ some cause → endAfter (saying toNumber o n) len ≡ len
+end-refused o n len cause e = ap (λ (p : Option Cause). endAfter (saying toNumber p n) len) e
 
-pub end-given : (o : Option Cause) (n len : ℕ) → o ≡ none → endAfter (answered o n) len ≡ n
-end-given o n len e = ap (λ (p : Option Cause). endAfter (answered p n) len) e
+pub end-given : (o : Option Cause) (n len : ℕ) → o ≡ none → endAfter (saying toNumber o n) len ≡ n
+end-given o n len e = ap (λ (p : Option Cause). endAfter (saying toNumber p n) len) e
 
-pub truncated : (len at size keep end : ℕ) (r : Answer) (len' : ℕ) → at ≡ len → r ≡ answered (truncateRefusal at size) (min at keep) → end ≡ endAfter r at → len' ≡ end → Truncated len size keep r len'
+pub truncated : (len at size keep end : ℕ) (r : Answer) (len' : ℕ) → at ≡ len
+    → r ≡ saying toNumber (truncateRefusal at size) (min at keep) → end ≡ endAfter r at → len' ≡ end → Truncated len size keep r len'
 truncated len at size keep end r len' is a e l =
-    let after : len' ≡ endAfter (answered (truncateRefusal at size) (min at keep)) at = l ∙ e ∙ ap (λ (s : Answer). endAfter s at) a in subst (λ (k : ℕ). Truncated k size keep r len') is record {
-      answer = a;
-      refused = λ cause o. after ∙ end-refused (truncateRefusal at size) (min at keep) at cause o;
-      shorter = λ o. after ∙ end-given (truncateRefusal at size) (min at keep) at o;
-    }
+    let after : len' ≡ endAfter (saying toNumber (truncateRefusal at size) (min at keep)) at =
+    l ∙ e ∙ ap (λ (s : Answer). endAfter s at) a in
+    subst (λ (k : ℕ). Truncated k size keep r len') is
+    (call-of toNumber (min at keep) a
+    (λ cause o. after ∙ end-refused (truncateRefusal at size) (min at keep) at cause o)
+    (λ o. (refl, after ∙ end-given (truncateRefusal at size) (min at keep) at o)))

@@ -21,17 +21,18 @@ use Rattle.theory.proofs.Sides.{length-inOrder}
 use Rattle.theory.proofs.Typing.{trues-form, entryAt-take}
 use Rattle.causes.specs.declared.Cause.{Cause}
 use Rattle.tables.specs.Tables.{Tables}
-use Rattle.tables.specs.InForm.{formOf}
-use Rattle.answers.specs.Refusals.{isOut}
+use Rattle.tables.specs.InForm.{isOut, formOf}
 use Rattle.tables.specs.declared.Form.{Form}
-use Rattle.tables.specs.declared.Answer.{Answer}
-use Rattle.tables.specs.declared.Answer.the-variants.{Number}
+use Rattle.causes.specs.declared.Answer.{Answer}
+use Rattle.causes.specs.declared.Answer.the-variants.{Number}
+use Rattle.causes.specs.Call.{saying, toNumber}
+use Rattle.causes.proofs.Calls.{given-answer, answer-with}
 use Rattle.tables.proofs.Sweeps.{each-all}
 use Rattle.built.specs.Built.{dictionaryOf, Built}
 use Rattle.built.proofs.Rows.{lawful-is, known}
 use Rattle.built.proofs.InForm.{in-form}
 use Rattle.typing_core.specs.Refusals.{headOut, extendRefusal, tokenCountRefusal}
-use Rattle.typing_core.specs.Columns.{FormOf}
+use Rattle.typing_core.specs.Columns.{FormOf, lastCount}
 use Rattle.typing.specs.declared.State.{State}
 use Rattle.typing.specs.Records.{noState, entryOf, bytesOf, codesOf, countsOf}
 use Rattle.typing.specs.Steps.{endAfter}
@@ -102,7 +103,7 @@ module _ (T : Tables) (n : ℕ) (B : Built T n) (side : Side) (text : List ℕ) 
 
     -- where there are records left, push and extend are not refused
     passes : (typed : List ℕ) (fine : Bool) → FormOf T side len (length states) (bytesOf states) (codesOf states) (countsOf states) fine
-        → i + length typed ≤ 4096 → extendRefusal form-is len (length states) fine typed ≡ none
+        → i + length typed ≤ 4096 → extendRefusal T len (length states) fine typed ≡ none
     unfolding extendRefusal
     passes typed fine form h = rw (
       le-ltb 4096 (length typed) (omega (arith, h)),
@@ -113,23 +114,29 @@ module _ (T : Tables) (n : ℕ) (B : Built T n) (side : Side) (text : List ℕ) 
       le-ltb 4096 (len + length typed) (omega (arith, S .len-is, h)),
     )
 
-    -- `token_count` gives the count of the text so far
-    count-is : (k : ℕ) → i ≡ suc k → (r : Answer) → TokenCounted T side len states r → r ≡ Number (countAt D side text k)
+    -- nor is `token_count`
+    counts : (fine : Bool) → FormOf T side len (length states) (bytesOf states) (codesOf states) (countsOf states) fine
+        → tokenCountRefusal T len (length states) fine ≡ none
     unfolding tokenCountRefusal
+    counts fine form = rw (in-form T n B, fine-is fine form, head-is)
+
+    -- it gives the count of the text so far
+    count-is : (k : ℕ) → i ≡ suc k → (r : Answer) → TokenCounted T side len states r → r ≡ Number (countAt D side text k)
     count-is k e r c =
-        c .answer ∙ rw (in-form T n B, fine-is (c .fine) (c .form), head-is, S .len-is ∙ e)
-        (ap Number (count-at D side text i len states S k (omega (arith, e))))
+        given-answer toNumber (c .call) (counts (c .fine) (c .form))
+        ∙ ap Number (c .call .given (counts (c .fine) (c .form)) ∙ ap (lastCount (countsOf states)) (S .len-is ∙ e)
+        ∙ count-at D side text i len states S k (omega (arith, e)))
 
     -- the records of the next bytes of the text
     longer : (typed : List ℕ) (r : Answer) (len' : ℕ) (states' : List State) (X : Extended T side len states typed r len' states')
         → typed ≡ take (length typed) (drop i text) → i + length typed ≤ 4096 → Standing D side text (i + length typed) len' states'
     longer typed r len' states' X is room = record {
-      len-is = X .longer free ∙ ap (λ (k : ℕ). k + length typed) (S .len-is);
+      len-is = X .call .given free .longer ∙ ap (λ (k : ℕ). k + length typed) (S .len-is);
       few = room;
       records = λ j h. ⊎-elim (below j) (λ (l : i ≤ j). new j l h) (lt-or-ge j i);
     }
       where
-        free : extendRefusal form-is len (length states) (X .fine) typed ≡ none
+        free : extendRefusal T len (length states) (X .fine) typed ≡ none
         free = passes typed (X .fine) (X .form) room
 
         texts : take len (bytesOf states) ++ typed ≡ take (i + length typed) text
@@ -137,7 +144,7 @@ module _ (T : Tables) (n : ℕ) (B : Built T n) (side : Side) (text : List ℕ) 
 
         new : (j : ℕ) → i ≤ j → j < i + length typed → entryOf (getD states' j noState) ≡ entryAt D side text j
         new j l h = let at : len + (j - i) ≡ j = omega (arith, S .len-is, l) in
-            subst (λ (k : ℕ). entryOf (getD states' k noState) ≡ entryAt D side (take len (bytesOf states) ++ typed) k) at (X .built n B free (j - i) (omega (arith, l, h)))
+            subst (λ (k : ℕ). entryOf (getD states' k noState) ≡ entryAt D side (take len (bytesOf states) ++ typed) k) at (X .call .given free .built n B (j - i) (omega (arith, l, h)))
             ∙ ap (λ (t : List ℕ). entryAt D side t j) texts
             ∙ entryAt-take D side text (i + length typed) j h
 
@@ -192,14 +199,17 @@ module _ (T : Tables) (side : Side) (text counts₀ : List ℕ) where
 
     module _ (b : ℕ) (r : Answer) (len' : ℕ) (states' : List State) (X : Extended T side len states (b ∷ []) r len' states') where
       abbrev refusal : Option Cause
-      refusal = extendRefusal (formOf T) len (length states) (X .fine) (b ∷ [])
+      refusal = extendRefusal T len (length states) (X .fine) (b ∷ [])
+
+      answer : r ≡ saying toNumber refusal (len + 1)
+      answer = answer-with toNumber (X .call) (len + 1) (λ o. X .call .given o .number-is)
 
       -- no record is left
       pub ends-full : endAfter r i ≡ i → TextTyped T side text counts₀ i counts
       ends-full e = ends (λ n B.
           let S = K .standing n B in
           ⊎-elim (λ (h : i < 4096). absurd (let
-          more : endAfter r i ≡ len + 1 = ap (λ (a : Answer). endAfter a i) (X .answer)
+          more : endAfter r i ≡ len + 1 = ap (λ (a : Answer). endAfter a i) answer
           ∙ end-given refusal (len + 1) i
           (passes T n B side text i len states octets S (K .slice) (K .text-fits) (b ∷ []) (X .fine) (X .form) (omega (arith, h)))
           in omega (arith, e, more, S .len-is))) (λ h. omega (arith, K, S .few, h)) (lt-or-ge i 4096))
@@ -211,8 +221,8 @@ module _ (T : Tables) (side : Side) (text counts₀ : List ℕ) where
         text-fits = omega arith;
         counts-fit = omega arith;
         few = omega (arith, fits .most-fits, K .len-is);
-        len-is = X .longer free ∙ ap (λ (k : ℕ). k + 1) (K .len-is);
-        out-of-form = λ o. absurd (true-false (sym o ∙ tables-in (formOf T) len (length states) (X .fine) (b ∷ []) free));
+        len-is = X .call .given free .longer ∙ ap (λ (k : ℕ). k + 1) (K .len-is);
+        out-of-form = λ o. absurd (true-false (sym o ∙ tables-in T len (length states) (X .fine) (b ∷ []) free));
         size-kept = length-set counts i v ∙ K .size-kept;
         slice = X .size-kept ∙ K .slice;
         beyond-kept = drop-set-lt (i + 1) counts i v (omega arith) ∙ sym (drop-drop 1 i counts) ∙ ap (drop 1) (K .beyond-kept) ∙ drop-drop 1 i counts₀;
@@ -227,10 +237,10 @@ module _ (T : Tables) (side : Side) (text counts₀ : List ℕ) where
           free = go refusal refl where
             go : (o : Option Cause) → refusal ≡ o → refusal ≡ none
             go none e = e
-            go (some cause) e = absurd (new (ap (λ (a : Answer). endAfter a i) (X .answer) ∙ end-refused refusal (len + 1) i cause e))
+            go (some cause) e = absurd (new (ap (λ (a : Answer). endAfter a i) answer ∙ end-refused refusal (len + 1) i cause e))
 
           fits : Extends len (length states) (b ∷ [])
-          fits = extends (formOf T) len (length states) (X .fine) (b ∷ []) free
+          fits = extends T len (length states) (X .fine) (b ∷ []) free
 
           stands : (n : ℕ) → Built T n → Standing (dictionaryOf file) side text (i + 1) len' states'
           stands n B =

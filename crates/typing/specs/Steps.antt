@@ -4,8 +4,8 @@ use mathlib.Core.List.{List}
 use mathlib.Core.Bool.{cond}
 use Prim.Native.Nat.{ℕ, _<_, _≤_}
 use lib.ListN.{length, getD, take, drop}
-use Rattle.tables.specs.declared.Answer.{Answer}
-use Rattle.tables.specs.declared.Answer.the-variants.{Number, Refused}
+use Rattle.causes.specs.declared.Answer.{Answer}
+use Rattle.causes.specs.declared.Answer.the-variants.{Number, Refused}
 use Rattle.typing_core.specs.Refusals.{headOut}
 use Rattle.typing.specs.declared.State.{State}
 use Rattle.typing.specs.Records.{noState, bytesOf, codesOf, countsOf}

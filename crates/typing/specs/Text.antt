@@ -6,8 +6,7 @@ use Prim.Native.Nat.{ℕ, _<_, _≤_, min}
 use lib.ListN.{length, getD, drop}
 use Rattle.theory.specs.Typing as Typing
 use Rattle.tables.specs.Tables.{Tables}
-use Rattle.tables.specs.InForm.{formOf}
-use Rattle.answers.specs.Refusals.{isOut}
+use Rattle.tables.specs.InForm.{isOut, formOf}
 use Rattle.built.specs.Built.{dictionaryOf, Built}
 
 -- the number of bytes typed, and the count after each; over tables that a build left all are typed for which there is room, and the counts are

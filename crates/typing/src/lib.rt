@@ -4,15 +4,15 @@ ghost use mathlib.Core.Path.{_≡_};
 ghost use mathlib.Core.List.{[], _∷_};
 ghost use Prim.Native.Nat.{min};
 ghost use lib.ListN.{length};
-ghost use Rattle.answers.specs.Answers.{answered};
+ghost use Rattle.causes.specs.Call.{saying, toNumber};
 ghost use Rattle.typing_core.specs.Sides.{sideOf};
 ghost use Rattle.typing_core.specs.Refusals.{headOut, truncateRefusal};
 ghost use Rattle.typing.specs.Steps.{usableOf, endAfter, stateOf, ColumnsReady, Copied, Places, Stored};
 ghost use Rattle.typing.specs.Calls.{Extended, TokenCounted, Truncated};
 ghost use Rattle.typing.specs.Text.{TextTyped};
 ghost use Rattle.tables.specs.Tables.{lent, before, after};
+use causes::Answer;
 use causes::Cause;
-use tables::Answer;
 use typing_core::Side;
 
 // A typing record: a byte, the last code of the text up to it (in prepending the first code), and the number of its codes.
@@ -97,7 +97,7 @@ fn end_after(answer: Answer, len: usize) -> usize
 
 // The answer of truncate.
 fn cut(len: usize, size: usize, keep: usize) -> Answer
-    ensures { λ r. ⌜ r ≡ answered (truncateRefusal len size) (min len keep) ⌝ }
+    ensures { λ r. ⌜ r ≡ saying toNumber (truncateRefusal len size) (min len keep) ⌝ }
 {
     if head_out(len, size) {
         return Answer::Refused(Cause::OutOfForm);

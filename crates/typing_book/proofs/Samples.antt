@@ -10,8 +10,8 @@ use Rattle.theory.specs.Parts.{dictionary, partsBelow}
 use Rattle.theory.specs.Samples.{E, abcd}
 use Rattle.theory.specs.Typing.{Side, append, prepend, Entry}
 use Rattle.causes.specs.declared.Cause.the-variants.{TooLong, Full}
-use Rattle.tables.specs.declared.Answer.{Answer}
-use Rattle.tables.specs.declared.Answer.the-variants.{Number, Refused}
+use Rattle.causes.specs.declared.Answer.{Answer}
+use Rattle.causes.specs.declared.Answer.the-variants.{Number, Refused}
 use Rattle.typing_book.specs.Book.{Call, push, extend, truncate, tokenCount, bookRefusal, bookAfter, bookAnswer, bookRecord}
 
 -- the book after a list of calls

@@ -17,10 +17,10 @@ use Rattle.theory.proofs.Encode.{encode-nil}
 use Rattle.theory.proofs.Sides.{inOrder-nil}
 use Rattle.theory.proofs.Typing.{TrueAt, trues-form, countAt-last}
 use Rattle.causes.specs.declared.Cause.the-variants.{TooLong, Full}
+use Rattle.causes.specs.Order.{otherOrder, when, over, firstOf}
 use Rattle.tables.specs.Tables.{Tables}
 use Rattle.tables.specs.InForm.{formOf, allBelow}
 use Rattle.tables.proofs.Sweeps.{each-all}
-use Rattle.answers.specs.Refusals.{when, over}
 use Rattle.built.specs.Built.{dictionaryOf, Built}
 use Rattle.built.proofs.Rows.{lawful-is, known}
 use Rattle.built.proofs.InForm.{in-form}
@@ -118,13 +118,13 @@ module _ (T : Tables) (n : ℕ) (B : Built T n)
     is-fine = form .built n B (head-is D side size m s S) ∙ records-in
 
     -- push and extend are refused by 9 and 12 alone
-    pub extend-by-length : (typed : List ℕ) → extendRefusal (formOf T) (m .len) (length (m .states)) fine typed
-        ≡ when (over typed) TooLong (when (full (length s) size typed) (Full (length s)) none)
+    pub extend-by-length : (typed : List ℕ) → extendRefusal T (m .len) (length (m .states)) fine typed
+        ≡ firstOf otherOrder (when (over typed) TooLong ∷ when (full (length s) size typed) (Full (length s)) ∷ [])
     unfolding extendRefusal
     extend-by-length typed = rw (in-form T n B, is-fine, head-is D side size m s S, S .len, S .size-is)
 
     -- `token_count` is not refused
-    pub token-count-passes : tokenCountRefusal (formOf T) (m .len) (length (m .states)) fine ≡ none
+    pub token-count-passes : tokenCountRefusal T (m .len) (length (m .states)) fine ≡ none
     unfolding tokenCountRefusal
     token-count-passes = rw (in-form T n B, is-fine, head-is D side size m s S)
 

@@ -19,9 +19,12 @@ use Rattle.causes.specs.declared.Cause.{Cause}
 use Rattle.causes.specs.declared.Cause.the-variants.{TooLong, Full}
 use Rattle.tables.specs.Tables.{Tables}
 use Rattle.tables.specs.InForm.{formOf}
-use Rattle.tables.specs.declared.Answer.{Answer}
-use Rattle.answers.specs.Answers.{answered}
-use Rattle.answers.specs.Refusals.{when, over}
+use Rattle.causes.specs.declared.Answer.{Answer}
+use Rattle.causes.specs.declared.Answer.the-variants.{Number}
+use Rattle.causes.specs.Order.{otherOrder, when, over, firstOf}
+use Rattle.causes.specs.Call.{saying, toNumber}
+use Rattle.causes.proofs.Calls.{given-answer, answer-with}
+use Rattle.causes.proofs.None.{none-applies, neither}
 use Rattle.built.specs.Built.{dictionaryOf, Built}
 use Rattle.typing_core.specs.Refusals.{full, extendRefusal, tokenCountRefusal, truncateRefusal}
 use Rattle.typing.specs.declared.State.{State}
@@ -33,21 +36,16 @@ use Rattle.typing_book.proofs.Texts.{octets-append, octets-take, added-
 use Rattle.typing_book.proofs.Standing.{Standing, typed-are, truncate-passes, extend-by-length, token-count-passes, last-count}
 
 -- where 9 and 12 do not apply, the bytes stay within the slice and 4,096
-no-cause : (a b c : Bool) (x y : Cause) → when a x (when (b || c) y none) ≡ none → (b ≡ false) × (c ≡ false)
-no-cause true b c x y e = let z : _≡_ {A = ℕ} 0 1 = cc in absurd (omega arith)
-no-cause false true c x y e = let z : _≡_ {A = ℕ} 0 1 = cc in absurd (omega arith)
-no-cause false false true x y e = let z : _≡_ {A = ℕ} 0 1 = cc in absurd (omega arith)
-no-cause false false false x y e = (refl, refl)
-
 within : (book : List ℕ) (size : ℕ) (typed : List ℕ) → bookRefusal size book (extend typed) ≡ none
     → (length book + length typed ≤ size) × (length book + length typed ≤ 4096)
 within book size typed e =
     let end = length book + length typed in
-    let f = no-cause (over typed) (ltb size end) (ltb 4096 end) TooLong (Full (length book)) e in
+    let fails = none-applies otherOrder (when (over typed) TooLong ∷ when (full (length book) size typed) (Full (length book)) ∷ []) e in
+    let f = neither (ltb size end) (ltb 4096 end) (fails .1 .0 refl) in
     (ltb-false size end (f .0), ltb-false 4096 end (f .1))
 
 -- the same refusal and the same number give the same answer
-same-answer : {x y : Option Cause} {k l : ℕ} → x ≡ y → k ≡ l → answered x k ≡ answered y l
+same-answer : {x y : Option Cause} {k l : ℕ} → x ≡ y → k ≡ l → saying toNumber x k ≡ saying toNumber y l
 same-answer e f = rw (e, f)
 
 -- what a call leaves and answers: typed bytes whose text is the book after it
@@ -71,24 +69,26 @@ module _ (T : Tables) (n : ℕ) (B : Built T n)
   -- push, as extend by its one byte, and extend
   module _ (typed : List ℕ) (o : Octets typed) (X : Extended T side (m .len) (m .states) typed r (m' .len) (m' .states)) where
     abbrev refusal : Option Cause
-    refusal = extendRefusal (formOf T) (m .len) (length (m .states)) (X .fine) typed
+    refusal = extendRefusal T (m .len) (length (m .states)) (X .fine) typed
 
     by-book : refusal ≡ bookRefusal size book (extend typed)
     by-book = extend-by-length T n B side size m s S (X .fine) (X .form) typed
-        ∙ ap (λ (k : ℕ). when (over typed) TooLong (when (full k size typed) (Full k) none)) (sym (length-inOrder side s))
+        ∙ ap (λ (k : ℕ). firstOf otherOrder (when (over typed) TooLong ∷ when (full k size typed) (Full k) ∷ []))
+        (sym (length-inOrder side s))
 
     longer : m .len + length typed ≡ length (turned side book (extend typed))
     longer = omega (arith, ap length (added-is side s typed), length-inOrder side (s ++ typed), length-append s typed, S .len)
 
     answer-is : r ≡ bookAnswer D side size book (extend typed)
     unfolding bookAnswer
-    answer-is = X .answer ∙ same-answer by-book longer
+    answer-is =
+        answer-with toNumber (X .call) (m .len + length typed) (λ o. X .call .given o .number-is) ∙ same-answer by-book longer
 
     refused : (cause : Cause) → refusal ≡ some cause → Turned D side size s m (extend typed) r m'
     unfolding bookAfter bookAnswer
     refused cause e =
         let f : bookRefusal size book (extend typed) ≡ some cause = sym by-book ∙ e in
-        let same = X .refused cause e in
+        let same = X .call .refused cause e in
         record {
           text = s;
           book = sym (ap (λ (x : Option Cause). unless x book (turned side book (extend typed))) f);
@@ -113,7 +113,7 @@ module _ (T : Tables) (n : ℕ) (B : Built T n)
         octets = octets-append s typed (S .octets) o;
         few = rw (length-append s typed) (room .1);
         fits = rw (length-append s typed) (room .0);
-        len = omega (arith, X .longer e, S .len, length-append s typed);
+        len = omega (arith, X .call .given e .longer, S .len, length-append s typed);
         size-is = X .size-kept ∙ S .size-is;
         records = λ i h. ⊎-elim (earlier i) (later i h) (lt-or-ge i (length s));
       };
@@ -138,7 +138,7 @@ module _ (T : Tables) (n : ℕ) (B : Built T n)
         later i h l =
             let k : i ≡ m .len + (i - m .len) = omega (arith, S .len) in
             ap (λ (j : ℕ). entryOf (getD (m' .states) j noState)) k
-            ∙ X .built n B e (i - m .len) (omega (arith, S .len, length-append s typed))
+            ∙ X .call .given e .built n B (i - m .len) (omega (arith, S .len, length-append s typed))
             ∙ ap (λ (t : List ℕ). entryAt D side (t ++ typed) (m .len + (i - m .len))) (typed-are D side size m s S)
             ∙ ap (entryAt D side (s ++ typed)) (sym k)
 
@@ -158,11 +158,11 @@ module _ (T : Tables) (n : ℕ) (B : Built T n)
       octets = octets-take k s (S .octets);
       few = omega (arith, length-take k s, S .few);
       fits = omega (arith, length-take k s, S .fits);
-      len = omega (arith, K .shorter passes, S .len, length-take k s);
+      len = omega (arith, K .given passes .1, S .len, length-take k s);
       size-is = ap length e ∙ S .size-is;
       records = λ i h. ap (λ (l : List State). entryOf (getD l i noState)) e ∙ S .records i (omega (arith, length-take k s)) ∙ sym (entryAt-take D side s k i (omega (arith, length-take k s)));
     };
-    answer = K .answer ∙ same-answer passes kept-length;
+    answer = given-answer toNumber K passes ∙ ap Number (K .given passes .0 ∙ kept-length);
     beyond = ap (drop (m' .len)) e;
   }
     where
@@ -178,11 +178,11 @@ module _ (T : Tables) (n : ℕ) (B : Built T n)
     text = s;
     book = refl;
     standing = rw e S;
-    answer = K .answer ∙ same-answer passes (last-count T n B side size m s S);
+    answer = given-answer toNumber (K .call) passes ∙ ap Number (K .call .given passes ∙ last-count T n B side size m s S);
     beyond = rw e;
   }
     where
-      passes : tokenCountRefusal (formOf T) (m .len) (length (m .states)) (K .fine) ≡ none
+      passes : tokenCountRefusal T (m .len) (length (m .states)) (K .fine) ≡ none
       passes = token-count-passes T n B side size m s S (K .fine) (K .form)
 
   -- each call, by what its contract ensures

@@ -8,9 +8,9 @@ use Rattle.theory.specs.Merge.{encode}
 use Rattle.theory.specs.Typing.{Side, append, prepend, endCode, Entry}
 use Rattle.causes.specs.declared.Cause.{Cause}
 use Rattle.causes.specs.declared.Cause.the-variants.{TooLong, Full}
-use Rattle.tables.specs.declared.Answer.{Answer}
-use Rattle.answers.specs.Answers.{answered}
-use Rattle.answers.specs.Refusals.{when, over}
+use Rattle.causes.specs.declared.Answer.{Answer}
+use Rattle.causes.specs.Order.{otherOrder, when, over, firstOf}
+use Rattle.causes.specs.Call.{saying, toNumber}
 use Rattle.typing_core.specs.Refusals.{full}
 
 -- the calls of a list
@@ -32,8 +32,9 @@ kept prepend k book = drop (length book - k) book
 
 -- where 9 (extend's argument over 4,096 bytes) or 12 applies, the book's length being the current one, the call is refused so
 abbrev pub bookRefusal : ℕ → List ℕ → Call → Option Cause
-bookRefusal size book (push byte) = when (full (length book) size (byte ∷ [])) (Full (length book)) none
-bookRefusal size book (extend bytes) = when (over bytes) TooLong (when (full (length book) size bytes) (Full (length book)) none)
+bookRefusal size book (push byte) = firstOf otherOrder (when (full (length book) size (byte ∷ [])) (Full (length book)) ∷ [])
+bookRefusal size book (extend bytes) =
+    firstOf otherOrder (when (over bytes) TooLong ∷ when (full (length book) size bytes) (Full (length book)) ∷ [])
 bookRefusal size book (truncate k) = none
 bookRefusal size book tokenCount = none
 
@@ -60,7 +61,7 @@ bookNumber D side book (truncate k) = length (turned side book (truncate k))
 bookNumber D side book tokenCount = length (encode D book)
 
 unfoldable pub bookAnswer : Dictionary → Side → ℕ → List ℕ → Call → Answer
-bookAnswer D side size book call = answered (bookRefusal size book call) (bookNumber D side book call)
+bookAnswer D side size book call = saying toNumber (bookRefusal size book call) (bookNumber D side book call)
 
 -- byte i, in prepending counted from the back
 abbrev pub byteAt : Side → List ℕ → ℕ → ℕ

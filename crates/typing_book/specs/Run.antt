@@ -6,7 +6,7 @@ use lib.ListN.{length, getD, drop}
 use Rattle.theory.specs.Dictionary.{Octets}
 use Rattle.theory.specs.Typing.{Side}
 use Rattle.tables.specs.Tables.{Tables}
-use Rattle.tables.specs.declared.Answer.{Answer}
+use Rattle.causes.specs.declared.Answer.{Answer}
 use Rattle.built.specs.Built.{dictionaryOf}
 use Rattle.typing.specs.declared.State.{State}
 use Rattle.typing.specs.Records.{noState, entryOf}

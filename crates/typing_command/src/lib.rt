@@ -1,6 +1,6 @@
 // `phrases type FILE`: standard input as a person types it. The typing calls over columns are used: those over a slice of records are the same
 // calls, and each function around them would need a long proof by hand.
-use tables::Answer;
+use causes::Answer;
 use tool_files::say_bursts;
 use tool_files::say_fields;
 use tool_files::say_many;

@@ -16,7 +16,9 @@ use Rattle.theory.proofs.Typing.{TrueAt, forms-true}
 use Rattle.tables.specs.Tables.{Tables, pairTables, withoutPrefixes}
 use Rattle.tables.specs.declared.Form.{Form}
 use Rattle.tables.specs.declared.Form.the-variants.{Rows, Out}
-use Rattle.tables.specs.declared.Answer.the-variants.{Number, Refused}
+use Rattle.causes.specs.declared.Answer.the-variants.{Number, Refused}
+use Rattle.causes.specs.Call.{toNumber}
+use Rattle.causes.proofs.Calls.{call-refused, call-given}
 use Rattle.tables.specs.InForm.{formOf, allBelow}
 use Rattle.tables.specs.Ready.{PlacesReady}
 use Rattle.tables.proofs.Sweeps.{all-each}
@@ -30,9 +32,6 @@ use Rattle.typing_core.proofs.Rows.{parts-in-form}
 
 out-rows : (n : ℕ) → Out ≡ Rows n → ⊥
 out-rows n e = let z : _≡_ {A = ℕ} 0 1 = cc in omega arith
-
-some-none : (cause : Cause) → some cause ≡ none → ⊥
-some-none cause e = let z : _≡_ {A = ℕ} 0 1 = cc in omega arith
 
 -- the answer of the checks tells whether anything is out of form
 any-out : (f : Form) (len size : ℕ) (fine : Bool) → Out ≡ cond (anyOut f len size fine) Out f → anyOut f len size fine ≡ true
@@ -52,27 +51,27 @@ none-out (Rows m) len size fine n e = go (headOut len size || not fine) e
     go false q = refl
 
 -- the refusals of push and extend
-module _ (f : Form) (len size : ℕ) (fine : Bool) (typed : List ℕ) where
-  refuse-long : 4096 < length typed → extendRefusal f len size fine typed ≡ some TooLong
+module _ (T : Tables) (len size : ℕ) (fine : Bool) (typed : List ℕ) where
+  refuse-long : 4096 < length typed → extendRefusal T len size fine typed ≡ some TooLong
   unfolding extendRefusal
   refuse-long h = rw (lt-ltb 4096 (length typed) h)
 
   module _ (short : length typed ≤ 4096) where
-    refuse-out : anyOut f len size fine ≡ true → extendRefusal f len size fine typed ≡ some OutOfForm
+    refuse-out : anyOut (formOf T) len size fine ≡ true → extendRefusal T len size fine typed ≡ some OutOfForm
     unfolding extendRefusal
     refuse-out e = rw (le-ltb 4096 (length typed) short, e)
 
-    module _ (e : anyOut f len size fine ≡ false) where
-      refuse-slice : size < len + length typed → extendRefusal f len size fine typed ≡ some (Full len)
+    module _ (e : anyOut (formOf T) len size fine ≡ false) where
+      refuse-slice : size < len + length typed → extendRefusal T len size fine typed ≡ some (Full len)
       unfolding extendRefusal
       refuse-slice h = rw (le-ltb 4096 (length typed) short, e, lt-ltb size (len + length typed) h)
 
       module _ (fits : len + length typed ≤ size) where
-        refuse-most : 4096 < len + length typed → extendRefusal f len size fine typed ≡ some (Full len)
+        refuse-most : 4096 < len + length typed → extendRefusal T len size fine typed ≡ some (Full len)
         unfolding extendRefusal
         refuse-most h = rw (le-ltb 4096 (length typed) short, e, le-ltb size (len + length typed) fits, lt-ltb 4096 (len + length typed) h)
 
-        refuse-none : len + length typed ≤ 4096 → extendRefusal f len size fine typed ≡ none
+        refuse-none : len + length typed ≤ 4096 → extendRefusal T len size fine typed ≡ none
         unfolding extendRefusal
         refuse-none h = rw (le-ltb 4096 (length typed) short, e, le-ltb size (len + length typed) fits, le-ltb 4096 (len + length typed) h)
 
@@ -158,47 +157,43 @@ module _ (T : Tables) (side : Side) (len size : ℕ) (bytes codes counts : List 
 
   -- push and extend
   module _ (typed bytes' codes' counts' : List ℕ) where
-    refused : (fine : Bool) → FormOf T side len size bytes codes counts fine → (cause : Cause) → extendRefusal form len size fine typed ≡ some cause
+    refused : (fine : Bool) → FormOf T side len size bytes codes counts fine → (cause : Cause) → extendRefusal T len size fine typed ≡ some cause
         → ExtendedColumns T side len size bytes codes counts typed (Refused cause) bytes' codes' counts'
-    refused fine F cause e = record {
-      fine = fine;
-      form = F;
-      answer = rw e;
-      bytes-are = λ z k h. absurd (some-none cause (sym e ∙ z));
-      built = λ n B z k h. absurd (some-none cause (sym e ∙ z));
-    }
+    refused fine F cause e = record { fine = fine; form = F; call = call-refused toNumber e 0 (record {}) }
 
     pub extend-long : 4096 < length typed → ExtendedColumns T side len size bytes codes counts typed (Refused TooLong) bytes' codes' counts'
-    extend-long h = refused formed unread TooLong (refuse-long form len size formed typed h)
+    extend-long h = refused formed unread TooLong (refuse-long T len size formed typed h)
 
     module _ (short : length typed ≤ 4096) (reading : List ℕ) where
       pub extend-out : Checked T side len size bytes codes counts reading Out
           → ExtendedColumns T side len size bytes codes counts typed (Refused OutOfForm) bytes' codes' counts'
-      extend-out C = refused (C .fine) (C .form) OutOfForm (refuse-out form len size (C .fine) typed short (any-out form len size (C .fine) (C .answer)))
+      extend-out C = refused (C .fine) (C .form) OutOfForm (refuse-out T len size (C .fine) typed short (any-out form len size (C .fine) (C .answer)))
 
       module _ (n : ℕ) (C : Checked T side len size bytes codes counts reading (Rows n)) where
         right : anyOut form len size (C .fine) ≡ false
         right = none-out form len size (C .fine) n (C .answer)
 
         pub extend-slice : size < len + length typed → ExtendedColumns T side len size bytes codes counts typed (Refused (Full len)) bytes' codes' counts'
-        extend-slice h = refused (C .fine) (C .form) (Full len) (refuse-slice form len size (C .fine) typed short right h)
+        extend-slice h = refused (C .fine) (C .form) (Full len) (refuse-slice T len size (C .fine) typed short right h)
 
         module _ (fits : len + length typed ≤ size) where
           pub extend-most : 4096 < len + length typed → ExtendedColumns T side len size bytes codes counts typed (Refused (Full len)) bytes' codes' counts'
-          extend-most h = refused (C .fine) (C .form) (Full len) (refuse-most form len size (C .fine) typed short right fits h)
+          extend-most h = refused (C .fine) (C .form) (Full len) (refuse-most T len size (C .fine) typed short right fits h)
 
           pub extend-done : len + length typed ≤ 4096 → ExtendedBy (withoutPrefixes T) side n len bytes codes counts typed bytes' codes' counts'
               → ExtendedColumns T side len size bytes codes counts typed (Number (len + length typed)) bytes' codes' counts'
           extend-done h X = record {
             fine = C .fine;
             form = C .form;
-            answer = rw (refuse-none form len size (C .fine) typed short right fits h);
-            bytes-are = λ z k l. X .bytes-are k l;
-            built = λ m B z k l.
-                let P = C .passed n refl in
-                let B' = same-build T n m (P .tables .places-ready) B in
-                let t = X .built prefixes B' (P .codes-are B') (P .counts-are B') in
-                record { byte = X .bytes-are k l; code = t .0 (len + k) (omega arith); count = t .1 (len + k) (omega arith) };
+            call = call-given toNumber (refuse-none T len size (C .fine) typed short right fits h) (len + length typed) (record {
+              number-is = refl;
+              bytes-are = X .bytes-are;
+              built = λ m B k l.
+                  let P = C .passed n refl in
+                  let B' = same-build T n m (P .tables .places-ready) B in
+                  let t = X .built prefixes B' (P .codes-are B') (P .counts-are B') in
+                  record { byte = X .bytes-are k l; code = t .0 (len + k) (omega arith); count = t .1 (len + k) (omega arith) };
+            });
           }
 
   -- what passed the checks has a length in form
@@ -217,12 +212,20 @@ module _ (T : Tables) (side : Side) (len size : ℕ) (bytes codes counts : List 
     pub count-out : Checked T side len size bytes codes counts reading Out
         → CountedColumns T side len size bytes codes counts (Refused OutOfForm)
     unfolding tokenCountRefusal
-    count-out C = record { fine = C .fine; form = C .form; answer = rw (any-out form len size (C .fine) (C .answer)) }
+    count-out C = record {
+      fine = C .fine;
+      form = C .form;
+      call = call-refused toNumber (rw (any-out form len size (C .fine) (C .answer))) 0 (record {});
+    }
 
     module _ (n : ℕ) (C : Checked T side len size bytes codes counts reading (Rows n)) where
       counted : (x : ℕ) → x ≡ lastCount counts len → CountedColumns T side len size bytes codes counts (Number x)
       unfolding tokenCountRefusal
-      counted x e = record { fine = C .fine; form = C .form; answer = rw (none-out form len size (C .fine) n (C .answer)) (ap Number e) }
+      counted x e = record {
+        fine = C .fine;
+        form = C .form;
+        call = call-given toNumber (rw (none-out form len size (C .fine) n (C .answer))) x e;
+      }
 
       pub count-none : len ≡ 0 → CountedColumns T side len size bytes codes counts (Number 0)
       count-none e = counted 0 (rw e)

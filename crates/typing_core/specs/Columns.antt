@@ -8,8 +8,8 @@ use lib.ListN.{length, getD, take}
 use Rattle.theory.specs.Typing as Typing
 use Rattle.tables.specs.Tables.{Tables}
 use Rattle.tables.specs.InForm.{formOf, allBelow}
-use Rattle.tables.specs.declared.Answer.{Answer}
-use Rattle.answers.specs.Answers.{answered}
+use Rattle.causes.specs.declared.Answer.{Answer}
+use Rattle.causes.specs.Call.{Call, toNumber, noBuffer}
 use Rattle.built.specs.Built.{dictionaryOf, Built}
 use Rattle.typing_core.specs.Refusals.{headOut, extendRefusal, tokenCountRefusal}
 
@@ -33,19 +33,21 @@ module _ (T : Tables) (side : Typing.Side) (len size : ℕ) where
     pub code : getD codes' (len + k) 0 ≡ Typing.codeAt (dictionaryOf file) side (take len bytes ++ typed) (len + k)
     pub count : getD counts' (len + k) 0 ≡ Typing.countAt (dictionaryOf file) side (take len bytes ++ typed) (len + k)
 
-  -- push and extend on columns: the answer is the new length, and the records added stand in the columns; the rest of the columns is scratch
+  -- push and extend on columns, not refused: the answer is the new length, and the records added stand in the columns
+  pub record ColumnsExtended (bytes codes counts typed bytes' codes' counts' : List ℕ) (number : ℕ) : Type 0 where
+    pub number-is : number ≡ len + length typed
+    pub bytes-are : (k : ℕ) → k < length typed → getD bytes' (len + k) 0 ≡ getD typed k 0
+    pub built : (n : ℕ) → Built T n → (k : ℕ) → k < length typed → Typed bytes codes counts typed bytes' codes' counts' k
+
+  -- push and extend on columns; what is not said of the columns is scratch
   pub record ExtendedColumns (bytes codes counts typed : List ℕ) (r : Answer) (bytes' codes' counts' : List ℕ) : Type 0 where
     pub fine : Bool
     pub form : FormOf bytes codes counts fine
-    pub answer : r ≡ answered (extendRefusal (formOf T) len size fine typed) (len + length typed)
-    pub bytes-are : extendRefusal (formOf T) len size fine typed ≡ none → (k : ℕ) → k < length typed
-        → getD bytes' (len + k) 0 ≡ getD typed k 0
-    pub built : (n : ℕ) → Built T n
-        → extendRefusal (formOf T) len size fine typed ≡ none → (k : ℕ) → k < length typed
-        → Typed bytes codes counts typed bytes' codes' counts' k
+    pub call : Call toNumber (extendRefusal T len size fine typed) noBuffer
+        (ColumnsExtended bytes codes counts typed bytes' codes' counts') r
 
   -- `token_count` on columns: the last record's count
   pub record CountedColumns (bytes codes counts : List ℕ) (r : Answer) : Type 0 where
     pub fine : Bool
     pub form : FormOf bytes codes counts fine
-    pub answer : r ≡ answered (tokenCountRefusal (formOf T) len size fine) (lastCount counts len)
+    pub call : Call toNumber (tokenCountRefusal T len size fine) noBuffer (λ number. number ≡ lastCount counts len) r

@@ -9,10 +9,10 @@ ghost use Rattle.typing_core.specs.Sides.{sideOf, sideNumbered};
 ghost use Rattle.typing_core.specs.Columns.{ExtendedColumns, CountedColumns};
 ghost use Rattle.typing_core.specs.Steps.{FillReady, Mirrored, Sizes, endsBytes, EndsReady, PairOf, BesideIs, FollowsReady, FollowsIs, CountReady, CountIs, RecordsReady, RecordReady, RecordIs, RecordsAre, CodeIs, PushReady, Pushed, ExtendReady, ExtendedBy, Checked};
 ghost use Rattle.tables.specs.Tables.{lent, pairGiven, pairLent, before, after};
+use causes::Answer;
 use causes::Cause;
 use end_code::end_code_at;
 use placed_rows::wide;
-use tables::Answer;
 use tables::Form;
 use token_pair::is_valid_pair_below;
 

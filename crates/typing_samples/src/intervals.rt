@@ -3,7 +3,7 @@ use crate::said::Tally;
 use crate::said::compare;
 use crate::said::held;
 use crate::said::say_answer;
-use tables::Answer;
+use causes::Answer;
 use words::part;
 
 // Last codes, a table of the tree or work numbers for a text of at most 200 bytes.

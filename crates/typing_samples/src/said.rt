@@ -1,5 +1,5 @@
 // What is printed, and how many answers differ.
-use tables::Answer;
+use causes::Answer;
 use words::say;
 use words::say_field;
 use words::wide;
@@ -20,13 +20,13 @@ pub fn say_four(name: &[u8], counts: &[u32; 4096]) {
 // The number that an answer holds, or the refusal and its place.
 pub fn say_answer(name: &[u8], answer: Answer) {
     say(name);
-    let refusal = answers::answer_number(answer);
+    let refusal = causes::answer_number(answer);
     if refusal != 0 {
         say(b" refused");
         say_field(wide(refusal));
         say(b", place");
     }
-    say_field(answers::answer_place(answer));
+    say_field(causes::answer_place(answer));
     say(b"\n");
 }
 
@@ -50,7 +50,7 @@ pub fn held(answer: Answer) -> u64 {
 // Counts a number that was compared with an answer. A refusal differs from every number.
 pub fn compare(tally: &mut Tally, found: u64, wanted: Answer) {
     tally[0] = std::num::wrapping_add_u64(tally[0], 1);
-    if answers::answer_number(wanted) != 0 || answers::answer_place(wanted) != found {
+    if causes::answer_number(wanted) != 0 || causes::answer_place(wanted) != found {
         tally[1] = std::num::wrapping_add_u64(tally[1], 1);
     }
 }

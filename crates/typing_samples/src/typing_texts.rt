@@ -5,7 +5,7 @@ use crate::said::held;
 use crate::texts::Text;
 use crate::texts::back;
 use crate::texts::put_piece;
-use tables::Answer;
+use causes::Answer;
 use typing_core::Side;
 use words::front;
 use words::front_numbers;

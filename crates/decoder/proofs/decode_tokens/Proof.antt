@@ -10,7 +10,7 @@ use Rattle.causes.specs.declared.Cause.the-variants.{UnknownCode}
 use Rattle.tables.specs.Tables.{tables}
 use Rattle.tables.specs.InForm.{formOf}
 use Rattle.tables.specs.declared.Form.the-variants.{Rows}
-use Rattle.decoder.specs.Decoding.{firstUnknown}
+use Rattle.causes.specs.Order.{firstUnknown}
 use Rattle.decoder.proofs.Decoding.{too-many, out-of-form, unknown-code, short-output, not-refused, codes-ready, decodes-refused, decodes-none}
 use Rattle.decoder.proofs.decode_tokens.Statement.{statement}
 use Rattle.decoder.proofs.decode_tokens.Tie as tie
@@ -24,7 +24,7 @@ known : (c : tie.Else2) → length (c .before .before .before .before .before .b
 known c = omega (arith, c .before .first-unknown .ensures, c .if2 .left)
 
 returns : tie.Need-returns
-returns c = decodes-refused _ _ _ _ (too-many _ _ _ _ (c .if1 .taken))
+returns c = decodes-refused _ _ _ _ (too-many _ _ _ (c .if1 .taken))
 
 tables-in-form-requires : tie.Need-tables-in-form-requires
 tables-in-form-requires c κs = search needs
@@ -36,7 +36,7 @@ enum-told : tie.Need-enum-told
 enum-told c = search needs
 
 returns-2 : tie.Need-returns-2
-returns-2 c = decodes-refused _ _ _ _ (out-of-form _ _ _ _ (c .before .before .before .if1 .left) (sym (c .before .before .tables-in-form .ensures) ∙ c .enum-told .given .1))
+returns-2 c = decodes-refused _ _ _ _ (out-of-form _ _ _ (c .before .before .before .if1 .left) (sym (c .before .before .tables-in-form .ensures) ∙ c .enum-told .given .1))
 
 first-unknown-requires : tie.Need-first-unknown-requires
 first-unknown-requires c κs = search needs
@@ -44,13 +44,13 @@ first-unknown-requires c κs = search needs
 returns-3 : tie.Need-returns-3
 returns-3 c =
     decodes-refused _ _ _ _
-    (unknown-code _ _ _ _ (c .before .before .before .before .before .before .if1 .left) _ (formed (c .before .before)) (omega (arith, c .before .first-unknown .ensures, c .if2 .taken)) ∙ ap (λ (i : ℕ). some (UnknownCode i)) (sym (c .before .first-unknown .ensures)))
+    (unknown-code _ _ _ (c .before .before .before .before .before .before .if1 .left) _ (formed (c .before .before)) (omega (arith, c .before .first-unknown .ensures, c .if2 .taken)) ∙ ap (λ (i : ℕ). some (UnknownCode i)) (sym (c .before .first-unknown .ensures)))
 
 spelled-length-requires : tie.Need-spelled-length-requires
 spelled-length-requires c κs = codes-ready _ _ _ (formed (c .before .before)) (c .before .before .before .before .before .before .if1 .left) (known c)
 
 returns-4 : tie.Need-returns-4
-returns-4 c = decodes-refused _ _ _ _ (short-output _ _ _ _ (c .before .before .before .before .before .before .before .before .if1 .left) _ (formed (c .before .before .before .before)) (known (c .before .before)) (omega (arith, c .before .spelled-length .ensures, c .if3 .taken)))
+returns-4 c = decodes-refused _ _ _ _ (short-output _ _ _ (c .before .before .before .before .before .before .before .before .if1 .left) _ (formed (c .before .before .before .before)) (known (c .before .before)) (omega (arith, c .before .spelled-length .ensures, c .if3 .taken)))
 
 slice-relend-prefix-write-spelled : tie.Need-slice-relend-prefix-write-spelled
 slice-relend-prefix-write-spelled c = search needs
@@ -70,7 +70,7 @@ same-length c = search needs
 
 returns-5 : tie.Need-returns-5
 returns-5 c =
-    decodes-none _ _ _ _ _ (not-refused _ _ _ _ (c .before .before .before .before .before .before .before .before .before .before .before .before .if1 .left) _ (formed (c .before .before .before .before .before .before .before .before)) (known (c .before .before .before .before .before .before)) (omega (arith, c .before .before .before .before .before .spelled-length .ensures, c .before .before .before .before .if3 .left)))
+    decodes-none _ _ _ _ _ (not-refused _ _ _ (c .before .before .before .before .before .before .before .before .before .before .before .before .if1 .left) _ (formed (c .before .before .before .before .before .before .before .before)) (known (c .before .before .before .before .before .before)) (omega (arith, c .before .before .before .before .before .spelled-length .ensures, c .before .before .before .before .if3 .left)))
     (c .before .before .before .before .before .spelled-length .ensures) (c .before .before .write-spelled .ensures)
 
 pub decode-tokens-spec : {M : Type 1} → statement M

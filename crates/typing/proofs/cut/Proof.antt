@@ -3,7 +3,7 @@ use mathlib.Core.Path.{_≡_, sym, _∙_, ap}
 use Prim.Native.Nat.{min}
 use native.Mathlib.Omega.{arith}
 use borrow.Author.Needs.{needs}
-use Rattle.tables.specs.declared.Answer.the-variants.{Number}
+use Rattle.causes.specs.declared.Answer.the-variants.{Number}
 use Rattle.typing.proofs.Ending.{cut-out, cut-in}
 use Rattle.typing.proofs.cut.Statement.{statement}
 use Rattle.typing.proofs.cut.Tie as tie

@@ -1,8 +1,8 @@
 -- Made by tools/carry: the borrow checker's `Kinds` of the twin of `extend`, carried over to the structs. Assumes nothing.
 use Rattle.typing.proofs.StateKit
 use Rattle.typing.proofs.HeadKit
-use Rattle.tables.proofs.Answer
-use Rattle.tables.proofs.Answer.Laws
+use Rattle.causes.proofs.Answer
+use Rattle.causes.proofs.Answer.Laws
 use Rattle.typing_core.proofs.Side
 use Rattle.typing_core.proofs.Side.Laws as Laws'
 use borrow.Fn.Kinds

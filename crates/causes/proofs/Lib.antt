@@ -1,0 +1,4 @@
+pub mod Calls
+pub mod None
+pub mod Orders
+pub mod Unknown

@@ -6,6 +6,7 @@ use mathlib.Core.Bool.{true, false, not}
 use Prim.Native.Nat.{ℕ, zero, suc, _≤_, _<_}
 use lib.ListN.{length, getD}
 use lib.Dec.{eqb}
+use Rattle.marks.specs.Layout.{areaSize}
 use Rattle.theory.specs.Dictionary.{Dictionary, none}
 use Rattle.theory.specs.Parts as Parts
 use Rattle.theory.specs.Backtracking.{State, place}
@@ -24,7 +25,7 @@ pub record TextReady (T : Tables) (n : ℕ) (text work : List ℕ) : Type 0 wher
 -- the same where only the rows are read
 pub record RowsReady (file places area : List ℕ) (n : ℕ) (text work : List ℕ) : Type 0 where
   pub places-ready : PlacesReady file places n
-  pub area-room : 16384 ≤ length area
+  pub area-room : areaSize ≤ length area
   pub short : length text ≤ 4096
   pub room : length text ≤ length work
 

@@ -3,6 +3,7 @@ ghost use mathlib.Core.Path.{_≡_};
 ghost use mathlib.Core.List.{List, _++_};
 ghost use Prim.Native.Nat.{ℕ, _+_, _^_, _-_, _<_, _≤_, min};
 ghost use lib.ListN.{length, take, drop};
+ghost use Rattle.marks.specs.Layout.{areaSize};
 ghost use Rattle.theory.specs.Dictionary.{Dictionary};
 ghost use Rattle.theory.specs.Backtracking.{final};
 ghost use Rattle.tables.specs.Tables.{given, lent, pairLent, before, after};
@@ -111,7 +112,7 @@ fn first_fit(
 
 // The encoder of a text before any step.
 pub fn start(file: &[u8], places: &[u32], area: &[u32], n: usize, text: &[u8]) -> BacktrackEncoder
-    requires { ⌜ PlacesReady (now file) (now places) n × ((16384 ≤ length (now area)) × (length (now text) ≤ 4096)) ⌝ }
+    requires { ⌜ PlacesReady (now file) (now places) n × ((areaSize ≤ length (now area)) × (length (now text) ≤ 4096)) ⌝ }
     ensures { λ r. ⌜ Started (now (file .entry)) (now (places .entry)) (now (area .entry)) n (now (text .entry)) r ⌝ }
 {
     let found = next_match(file, places, n, area, text, 0);

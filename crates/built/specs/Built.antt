@@ -3,6 +3,7 @@ use mathlib.Core.Path.{_≡_}
 use mathlib.Core.List.{List}
 use Prim.Native.Nat.{ℕ, _≤_, _<_}
 use lib.ListN.{length, getD, take}
+use Rattle.marks.specs.Layout.{areaSize}
 use Rattle.causes.specs.declared.BuildAnswer.the-variants.{Rows}
 use Rattle.phrase_file.specs.Form.{places, rows}
 use Rattle.phrase_file.specs.Checks.{checkOf}
@@ -27,7 +28,7 @@ pub record Built (T : Tables) (n : ℕ) : Type 0 where
   pub rights-are : (c : ℕ) → c < n → getD (T .rights) c 0 ≡ dictionaryOf (T .file) .right c
   pub prefixes-room : n ≤ length (T .prefixes)
   pub prefixes-are : (c : ℕ) → c < n → getD (T .prefixes) c 0 ≡ prefix (dictionaryOf (T .file)) c
-  pub area-room : 16384 ≤ length (T .area)
+  pub area-room : areaSize ≤ length (T .area)
   pub finds : Finds (T .file) (T .places) n (T .area)
   pub pairs-marked : PairsMarked (T .lefts) (T .rights) (T .area) n
   pub seams-marked : SeamsMarked (T .file) (T .lefts) (T .area) n

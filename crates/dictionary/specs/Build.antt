@@ -6,6 +6,7 @@ use mathlib.Core.Bool.{Bool, cond, _||_}
 use Prim.Native.Nat.{ℕ}
 use lib.ListN.{length, getD, drop, replicate}
 use lib.Dec.{ltb, eqb}
+use Rattle.marks.specs.Layout.{areaSize}
 use Rattle.causes.specs.declared.Cause.{Cause}
 use Rattle.causes.specs.declared.Cause.the-variants.{FactorZero, SameHash, NoParts, TooShort}
 use Rattle.causes.specs.declared.BuildAnswer.{BuildAnswer}
@@ -26,7 +27,7 @@ use Rattle.built.specs.Built.{Built}
 unfoldable pub tooShort : Tables → ℕ → Bool
 tooShort T n =
     ltb (length (T .places)) n || (ltb (length (T .lefts)) n || (ltb (length (T .rights)) n
-    || (ltb (length (T .prefixes)) n || ltb (length (T .area)) 16384)))
+    || (ltb (length (T .prefixes)) n || ltb (length (T .area)) areaSize)))
 
 -- cause 5: the lowest row with the hash of an earlier row, n where there is none
 unfoldable pub sameHash : List ℕ → ℕ → ℕ
@@ -53,7 +54,7 @@ cleared size t = replicate size none ++ drop size t
 abbrev pub allCleared : ℕ → Tables → Tables
 allCleared n T =
     tables (T .file) (cleared n (T .places)) (cleared n (T .lefts)) (cleared n (T .rights)) (cleared n (T .prefixes))
-    (cleared 16384 (T .area))
+    (cleared areaSize (T .area))
 
 -- the tables after a refusal ("Buffers after")
 unfoldable pub afterRefusal : Cause → Tables → Tables
@@ -64,7 +65,7 @@ afterRefusal cause T =
 abbrev pub beyond : ℕ → Tables → Tables
 beyond n T =
     tables (T .file) (drop n (T .places)) (drop n (T .lefts)) (drop n (T .rights)) (drop n (T .prefixes))
-    (drop 16384 (T .area))
+    (drop areaSize (T .area))
 
 -- the buffers after success: the tables are those of the file, and what is beyond is unchanged
 pub record Accepting (n : ℕ) (T T' : Tables) : Type 0 where

@@ -5,6 +5,7 @@ use mathlib.Core.Bool.{false}
 use Prim.Native.Nat.{ℕ, _≤_}
 use lib.ListN.{length, take, drop}
 use lib.Dec.{ltb}
+use Rattle.marks.specs.Layout.{areaSize}
 use Rattle.causes.specs.declared.BuildAnswer.{BuildAnswer}
 use Rattle.causes.specs.declared.BuildAnswer.the-variants.{Rows}
 use Rattle.causes.specs.declared.Cause.the-variants.{SameHash, NoParts}
@@ -38,7 +39,7 @@ pub record RowsFit (file placeTable prefixes area : List ℕ) (n : ℕ) : Type 0
   pub passed : checkOf file ≡ Rows n
   pub places-room : n ≤ length placeTable
   pub prefixes-room : n ≤ length prefixes
-  pub area-room : 16384 ≤ length area
+  pub area-room : areaSize ≤ length area
 
 -- the places, the prefixes and the search area are found for rows that differ
 pub record Searched (file placeTable prefixes area : List ℕ) (n : ℕ) : Type 0 where
@@ -55,7 +56,7 @@ pub record RowsFilled (file : List ℕ) (factor n : ℕ) (placeTable prefixes ar
   pub area-length : length area' ≡ length area
   pub places-beyond : drop n placeTable' ≡ drop n placeTable
   pub prefixes-beyond : drop n prefixes' ≡ drop n prefixes
-  pub area-beyond : drop 16384 area' ≡ drop 16384 area
+  pub area-beyond : drop areaSize area' ≡ drop areaSize area
 
 -- the answer r, and tables T' that are built if it is no refusal. What is beyond is unchanged
 pub record TablesFilled (factor n : ℕ) (T T' : Tables) (r : BuildAnswer) : Type 0 where

@@ -8,10 +8,8 @@ ghost use Rattle.dictionary.specs.Steps.{Buildable, RowsFit, RowsFilled,
 ghost use Rattle.tables.specs.Tables.{given, lent, left, before, after};
 use causes::BuildAnswer;
 use causes::Cause;
+use marks::AREA;
 use placed_rows::NONE;
-
-// The size of the search area.
-const AREA: usize = 16384;
 
 // Whether a table has fewer than n entries, or the search area fewer than it needs.
 fn are_short(

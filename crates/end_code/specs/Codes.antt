@@ -4,6 +4,7 @@ use mathlib.Core.List.{List}
 use mathlib.Core.Bool.{Bool}
 use Prim.Native.Nat.{ℕ, _≤_, _<_}
 use lib.ListN.{length, getD}
+use Rattle.marks.specs.Layout.{areaSize}
 use Rattle.theory.specs.Typing.{codeAt}
 use Rattle.tables.specs.Tables.{tables, PairTables, withPrefixes}
 use Rattle.tables.specs.Ready.{PlacesReady}
@@ -14,7 +15,7 @@ use Rattle.end_code.specs.Joins.{sideOf}
 -- what the row of a byte needs: the rows, and the byte
 pub record ByteReady (file places area : List ℕ) (n : ℕ) (bytes : List ℕ) (i : ℕ) : Type 0 where
   pub places-ready : PlacesReady file places n
-  pub area-room : 16384 ≤ length area
+  pub area-room : areaSize ≤ length area
   pub inside : i < length bytes
 
 -- a row, which is that of byte i

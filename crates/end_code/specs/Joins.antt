@@ -5,6 +5,7 @@ use mathlib.Core.List.{List}
 use mathlib.Core.Bool.{Bool, true, false}
 use Prim.Native.Nat.{ℕ, _+_, _≤_, _<_}
 use lib.ListN.{length, getD}
+use Rattle.marks.specs.Layout.{areaSize}
 use Rattle.placed_rows.specs.Rows.{none, Placed}
 use Rattle.theory.specs.Typing.{Side, append, prepend}
 use Rattle.theory.specs.FirstJoin.{JoinBelow, FirstJoin}
@@ -37,7 +38,7 @@ pub record PartReady (lefts rights : List ℕ) (x : ℕ) : Type 0 where
 -- what one join below m needs: the rows with their parts, and two rows
 pub record BesideReady (P : PairTables) (n m x s : ℕ) : Type 0 where
   pub placed : Placed (P .file) (P .places) n
-  pub area-room : 16384 ≤ length (P .area)
+  pub area-room : areaSize ≤ length (P .area)
   pub left-room : n ≤ length (P .lefts)
   pub right-room : n ≤ length (P .rights)
   pub below : m ≤ n

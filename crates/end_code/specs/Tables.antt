@@ -2,6 +2,7 @@
 use mathlib.Core.List.{List}
 use Prim.Native.Nat.{ℕ, _≤_, _<_}
 use lib.ListN.{length, getD}
+use Rattle.marks.specs.Layout.{areaSize}
 use Rattle.tables.specs.Tables.{PairTables}
 use Rattle.tables.specs.Ready.{PlacesReady, PartsReady}
 
@@ -18,7 +19,7 @@ RowsTo n table m = (j : ℕ) → j < m → getD table j 0 < n
 pub record PartsInForm (P : PairTables) (n : ℕ) : Type 0 where
   pub places-ready : PlacesReady (P .file) (P .places) n
   pub parts-ready : PartsReady (P .file) (P .lefts) (P .rights) n
-  pub area-room : 16384 ≤ length (P .area)
+  pub area-room : areaSize ≤ length (P .area)
 
 -- a table has m entries or more, and the first m are rows
 pub record FrontRows (n : ℕ) (table : List ℕ) (m : ℕ) : Type 0 where

@@ -5,20 +5,21 @@ use mathlib.Core.Bool.{Bool, true, false, _||_}
 use Prim.Native.Nat.{ℕ, _+_, _≤_, _<_}
 use lib.ListN.{length, getD, set, drop, replicate}
 use lib.Dec.{eqb, ltb}
+use Rattle.marks.specs.Layout.{links}
 use Rattle.placed_rows.specs.Rows.{none}
 use Rattle.forest.specs.Words.{row-of, In, Indexed}
 
 -- the half with empty buckets
 unfoldable pub cleared : List ℕ → List ℕ
-cleared half = replicate 8448 none ++ drop 8448 half
+cleared half = replicate links none ++ drop links half
 
 -- where a word comes into bucket h: at its head where the bucket is empty, else at the link of its first word
 unfoldable pub placeOf : List ℕ → ℕ → ℕ → ℕ
-placeOf half n h = elim (ltb (row-of (getD half h 0)) n) [ true ↦ 8448 + row-of (getD half h 0) | false ↦ h ]
+placeOf half n h = elim (ltb (row-of (getD half h 0)) n) [ true ↦ links + row-of (getD half h 0) | false ↦ h ]
 
 -- the half after the word w of row c was put at place a, before the word that stood there
 unfoldable pub put : List ℕ → ℕ → ℕ → ℕ → List ℕ
-put half a c w = set (set half (8448 + c) (getD half a 0)) a w
+put half a c w = set (set half (links + c) (getD half a 0)) a w
 
 -- the half after the word w of row c went into bucket h
 abbrev pub pushed : List ℕ → ℕ → ℕ → ℕ → ℕ → List ℕ

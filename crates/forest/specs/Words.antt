@@ -8,6 +8,7 @@ use mathlib.Core.Bool.{Bool, true, false}
 use Prim.Native.Nat.{ℕ, zero, suc, _+_, _-_, _*_, _/_, _%_, _≤_, _<_}
 use lib.ListN.{length, getD}
 use lib.Dec.{ltb, eqb}
+use Rattle.marks.specs.Layout.{rowMarks, links}
 use Rattle.marks.specs.Marks.{marked, bitKey}
 use Rattle.placed_rows.specs.Rows.{none}
 use Rattle.placed_rows.specs.Longest.{Prefix}
@@ -45,12 +46,12 @@ unfoldable pub childKey : ℕ → ℕ → ℕ
 childKey q b = bitKey (q % 4096) (b % 32)
 
 abbrev pub marksFrom : ℕ
-marksFrom = 4352
+marksFrom = rowMarks
 
 -- the words from x on, by the links, at most k of them
 unfoldable pub walk : ℕ → List ℕ → ℕ → ℕ → List ℕ
 walk n half zero x = []
-walk n half (suc k) x = elim (ltb (x % 8192) n) [ true ↦ x ∷ walk n half k (getD half (8448 + x % 8192) 0) | false ↦ [] ]
+walk n half (suc k) x = elim (ltb (x % 8192) n) [ true ↦ x ∷ walk n half k (getD half (links + x % 8192) 0) | false ↦ [] ]
 
 abbrev pub Mem : ℕ → List ℕ → Type 0
 Mem w [] = ⊥
@@ -91,4 +92,4 @@ pub record Indexed (R : ℕ → List ℕ) (n : ℕ) (half : List ℕ) (S : ℕ �
   pub listed : (d : ℕ) → In S d → Mem (wordOf R par d) (walk n half (count S n) (getD half (home R par d) 0))
   pub marks : (d : ℕ) → In S d → marked half marksFrom (childKey (par d) (byteOf R par d)) ≡ true
   pub single : (d : ℕ) → In S d → length (R d) ≡ 1 → getD half (home R par d) 0 ≡ wordOf R par d
-  pub only : (h w : ℕ) → h < 4352 → Mem w (walk n half n (getD half h 0)) → Entry R par S h w
+  pub only : (h w : ℕ) → h < rowMarks → Mem w (walk n half n (getD half h 0)) → Entry R par S h w

@@ -4,17 +4,17 @@ ghost use mathlib.Core.Bool.{true};
 ghost use Prim.Native.Nat.{_+_, _-_, _%_, _<_, _≤_};
 ghost use mathlib.Core.Logic.{_⊎_};
 ghost use lib.ListN.{length, getD, drop};
+ghost use Rattle.marks.specs.Layout.{rowMarks, hints};
 ghost use Rattle.placed_rows.specs.Rows.{none, row, Placed};
 ghost use Rattle.placed_rows.specs.Texts.{Small};
 ghost use Rattle.marks.specs.Marks.{marked};
 ghost use Rattle.forest.specs.Words.{word, tagAt, row-of, more-of, bucketOf, childKey, marksFrom};
 ghost use Rattle.forest.specs.Lookups.{Fits, OneLonger, ChildIs, ByteRow, Descent};
 ghost use Rattle.forest.specs.Growth.{cleared, placeOf, pushed, Inserted};
+use marks::LINKS;
+use marks::ROW_MARKS;
 use placed_rows::Match;
 use placed_rows::NONE;
-
-// Where the marks begin.
-const MARKS: usize = 4352;
 
 fn no_match() -> Match
     ensures { λ r. ⌜ r .row ≡ 4294967295 ⌝ }
@@ -59,14 +59,14 @@ fn tag_of(bytes: &[u8], k: usize) -> u32
 // The bucket of the rows whose prefix is row p and whose next byte is b.
 fn bucket(p: u32, b: u8) -> usize
     requires { ⌜ p < 4096 ⌝ }
-    ensures { λ r. ⌜ Small (bucketOf p b) 4352 r ⌝ }
+    ensures { λ r. ⌜ Small (bucketOf p b) rowMarks r ⌝ }
 {
     (p as usize * 31 + b as usize) % 4096
 }
 
 // The bucket of the rows that have no prefix and begin with b.
 fn root_bucket(b: u8) -> usize
-    ensures { λ r. ⌜ Small (bucketOf none b) 4352 r ⌝ }
+    ensures { λ r. ⌜ Small (bucketOf none b) rowMarks r ⌝ }
 {
     4096 + b as usize
 }
@@ -80,10 +80,10 @@ fn child_key(p: u32, b: u8) -> usize
 
 // Whether the prefix p and the next byte b are marked, by one bit: else no row has them.
 fn may_have_child(half: &[u32], p: u32, b: u8) -> bool
-    requires { ⌜ 12544 ≤ length (now half) ⌝ }
+    requires { ⌜ hints ≤ length (now half) ⌝ }
     ensures { λ r. ⌜ r ≡ marked (now (half .entry)) marksFrom (childKey p b) ⌝ }
 {
-    marks::is_bit_marked(half, MARKS, p as usize % 4096, b as usize % 32)
+    marks::is_bit_marked(half, ROW_MARKS, p as usize % 4096, b as usize % 32)
 }
 
 // Is w the word of a row whose prefix is p, of len bytes, and that goes on as the text from at on does? The bucket is that of p and the byte there, so that
@@ -145,7 +145,7 @@ fn listed_child(
     at: usize,
 ) -> Match
     requires { ⌜ Placed (now file) (now places) n ⌝ }
-    requires { ⌜ (12544 ≤ length (now half)) × ((at < length (now text)) × (first ≡ getD (now half) (bucketOf p (getD (now text) at 0)) 0)) ⌝ }
+    requires { ⌜ (hints ≤ length (now half)) × ((at < length (now text)) × (first ≡ getD (now half) (bucketOf p (getD (now text) at 0)) 0)) ⌝ }
     requires { ⌜ (getD (now text) at 0 < 256) × (len + (length (now text) - at) < 18446744073709551616) ⌝ }
     ensures { λ r. ⌜ ChildIs (row (now (file .entry)) (now (places .entry)) n) n (now (half .entry)) p len (drop at (now (text .entry))) (r .row) (r .len) ⌝ }
 {
@@ -166,7 +166,7 @@ fn listed_child(
         if left == 0 {
             return no_match();
         }
-        w = half[8448 + i];
+        w = half[LINKS + i];
     }
 }
 
@@ -183,7 +183,7 @@ fn bucket_child(
     at: usize,
 ) -> Match
     requires { ⌜ Placed (now file) (now places) n ⌝ }
-    requires { ⌜ (12544 ≤ length (now half)) × ((at < length (now text)) × (first ≡ getD (now half) (bucketOf p (getD (now text) at 0)) 0)) ⌝ }
+    requires { ⌜ (hints ≤ length (now half)) × ((at < length (now text)) × (first ≡ getD (now half) (bucketOf p (getD (now text) at 0)) 0)) ⌝ }
     requires { ⌜ len + (length (now text) - at) < 18446744073709551616 ⌝ }
     ensures { λ r. ⌜ ChildIs (row (now (file .entry)) (now (places .entry)) n) n (now (half .entry)) p len (drop at (now (text .entry))) (r .row) (r .len) ⌝ }
 {
@@ -203,7 +203,7 @@ fn bucket_child(
 // The row that is the byte b alone, where there is one: it is first in its bucket.
 pub fn byte_row(file: &[u8], places: &[u32], n: usize, half: &[u32], b: u8) -> u32
     requires { ⌜ Placed (now file) (now places) n ⌝ }
-    requires { ⌜ 12544 ≤ length (now half) ⌝ }
+    requires { ⌜ hints ≤ length (now half) ⌝ }
     ensures { λ r. ⌜ ByteRow (row (now (file .entry)) (now (places .entry)) n) n (now (half .entry)) b r ⌝ }
 {
     let w = half[root_bucket(b)];
@@ -225,7 +225,7 @@ pub fn child(
     at: usize,
 ) -> Match
     requires { ⌜ Placed (now file) (now places) n ⌝ }
-    requires { ⌜ (p < n) × ((12544 ≤ length (now half)) × (at ≤ length (now text))) ⌝ }
+    requires { ⌜ (p < n) × ((hints ≤ length (now half)) × (at ≤ length (now text))) ⌝ }
     requires { ⌜ len + (length (now text) - at) < 18446744073709551616 ⌝ }
     ensures { λ r. ⌜ ChildIs (row (now (file .entry)) (now (places .entry)) n) n (now (half .entry)) p len (drop at (now (text .entry))) (r .row) (r .len) ⌝ }
 {
@@ -261,7 +261,7 @@ pub fn descend(
     at: usize,
 ) -> Match
     requires { ⌜ Placed (now file) (now places) n ⌝ }
-    requires { ⌜ (from < n) × ((12544 ≤ length (now half)) × (at ≤ length (now text))) ⌝ }
+    requires { ⌜ (from < n) × ((hints ≤ length (now half)) × (at ≤ length (now text))) ⌝ }
     requires { ⌜ len + (length (now text) - at) < 18446744073709551616 ⌝ }
     ensures { λ r. ⌜ Descent (row (now (file .entry)) (now (places .entry)) n) n (now (half .entry)) from len (drop at (now (text .entry))) (r .row) (r .len) ⌝ }
 {
@@ -308,7 +308,7 @@ pub fn descend(
 // The shortest row that begins the text from at on, with its length, or NONE.
 fn root_child(file: &[u8], places: &[u32], n: usize, half: &[u32], text: &[u8], at: usize) -> Match
     requires { ⌜ Placed (now file) (now places) n ⌝ }
-    requires { ⌜ (12544 ≤ length (now half)) × (at ≤ length (now text)) ⌝ }
+    requires { ⌜ (hints ≤ length (now half)) × (at ≤ length (now text)) ⌝ }
     ensures { λ r. ⌜ ChildIs (row (now (file .entry)) (now (places .entry)) n) n (now (half .entry)) none 0 (drop at (now (text .entry))) (r .row) (r .len) ⌝ }
 {
     if text.len() <= at {
@@ -330,7 +330,7 @@ fn root_child(file: &[u8], places: &[u32], n: usize, half: &[u32], text: &[u8], 
 // The longest row that begins the text from at on, with its length, or NONE and 0.
 pub fn longest(file: &[u8], places: &[u32], n: usize, half: &[u32], text: &[u8], at: usize) -> Match
     requires { ⌜ Placed (now file) (now places) n ⌝ }
-    requires { ⌜ (12544 ≤ length (now half)) × (at ≤ length (now text)) ⌝ }
+    requires { ⌜ (hints ≤ length (now half)) × (at ≤ length (now text)) ⌝ }
     ensures { λ r. ⌜ Descent (row (now (file .entry)) (now (places .entry)) n) n (now (half .entry)) none 0 (drop at (now (text .entry))) (r .row) (r .len) ⌝ }
 {
     let m = root_child(file, places, n, half, text, at);
@@ -344,30 +344,30 @@ pub fn longest(file: &[u8], places: &[u32], n: usize, half: &[u32], text: &[u8],
 
 // Where a word comes into bucket h: at its head where the bucket is empty, else at the link of its first word.
 fn place(half: &[u32], n: usize, h: usize) -> usize
-    requires { ⌜ (n ≤ 4096) × ((h < 4352) × (12544 ≤ length (now half))) ⌝ }
-    ensures { λ r. ⌜ Small (placeOf (now (half .entry)) n h) 12544 r ⌝ }
+    requires { ⌜ (n ≤ 4096) × ((h < rowMarks) × (hints ≤ length (now half))) ⌝ }
+    ensures { λ r. ⌜ Small (placeOf (now (half .entry)) n h) hints r ⌝ }
 {
     let first = row_of(half[h]);
     if n <= first {
         return h;
     }
-    8448 + first
+    LINKS + first
 }
 
 // The word w of row c goes into bucket h: to its front where the bucket is empty, else behind its first word.
 fn push(half: &mut [u32], n: usize, h: usize, c: usize, w: u32)
-    requires { ⌜ (n ≤ 4096) × ((c < 4096) × ((h < 4352) × (12544 ≤ length (now half)))) ⌝ }
+    requires { ⌜ (n ≤ 4096) × ((c < 4096) × ((h < rowMarks) × (hints ≤ length (now half)))) ⌝ }
     ensures { λ r. ⌜ now (half .exit) ≡ pushed (now (half .entry)) n h c w ⌝ }
 {
     let at = place(half, n, h);
-    half[8448 + c] = half[at];
+    half[LINKS + c] = half[at];
     half[at] = w;
 }
 
 // The bucket of the rows whose prefix is p, a row or NONE, and whose next byte is b.
 fn bucket_of(p: u32, b: u8) -> usize
     requires { ⌜ (p ≡ none) ⊎ (p < 4096) ⌝ }
-    ensures { λ r. ⌜ Small (bucketOf p b) 4352 r ⌝ }
+    ensures { λ r. ⌜ Small (bucketOf p b) rowMarks r ⌝ }
 {
     if p == NONE {
         return root_bucket(b);
@@ -378,7 +378,7 @@ fn bucket_of(p: u32, b: u8) -> usize
 // Row c goes into the half, under the longest row in it that begins row c.
 pub fn insert(file: &[u8], places: &[u32], n: usize, half: &mut [u32], c: usize)
     requires { ⌜ Placed (now file) (now places) n ⌝ }
-    requires { ⌜ (12544 ≤ length (now half)) × ((c < n) × (length (row (now file) (now places) n c) ≤ 64)) ⌝ }
+    requires { ⌜ (hints ≤ length (now half)) × ((c < n) × (length (row (now file) (now places) n c) ≤ 64)) ⌝ }
     ensures { λ r. ⌜ Inserted (row (now (file .entry)) (now (places .entry)) n) n (now (half .entry)) c (now (half .exit)) ⌝ }
 {
     let bytes = placed_rows::bytes_of(file, places, n, c);
@@ -388,18 +388,18 @@ pub fn insert(file: &[u8], places: &[u32], n: usize, half: &mut [u32], c: usize)
     if k < bytes.len() {
         let next = bytes[k];
         let h = bucket_of(p, next);
-        marks::mark(half, MARKS, child_key(p, next));
+        marks::mark(half, ROW_MARKS, child_key(p, next));
         push(half, n, h, c, word_of(c, tag_of(bytes, k), bytes.len() - k));
     }
 }
 
 // Every bucket and every mark is emptied.
 pub fn clear(half: &mut [u32])
-    requires { ⌜ 12544 ≤ length (now half) ⌝ }
+    requires { ⌜ hints ≤ length (now half) ⌝ }
     ensures { λ r. ⌜ now (half .exit) ≡ cleared (now (half .entry)) ⌝ }
 {
     let mut i = 0;
-    while i < 8448 {
+    while i < LINKS {
         half[i] = NONE;
         i += 1;
     }

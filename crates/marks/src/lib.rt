@@ -2,8 +2,22 @@
 ghost use mathlib.Core.Path.{_≡_};
 ghost use Prim.Native.Nat.{_+_, _/_, _<_, _≤_};
 ghost use lib.ListN.{length};
+ghost use Rattle.marks.specs.Layout.{areaSize};
 ghost use Rattle.bitfield.specs.Bits.{wordBit, without};
 ghost use Rattle.marks.specs.Marks.{marked, bitKey, Marks};
+
+// Where each part of the search area begins (`specs/Layout.antt`): the heads of the buckets at 0, then these.
+pub const ROW_MARKS: usize = 4352;
+
+pub const LINKS: usize = 8448;
+
+pub const HINTS: usize = 12544;
+
+pub const SEAMS: usize = 14848;
+
+pub const PAIRS: usize = 15360;
+
+pub const AREA: usize = 16384;
 
 // A word without its bit k.
 fn word_without(word: u32, k: usize) -> u32
@@ -19,7 +33,7 @@ fn word_without(word: u32, k: usize) -> u32
 
 // Whether a key is marked.
 pub fn is_marked(numbers: &[u32], base: usize, key: usize) -> bool
-    requires { ⌜ (base ≤ 16384) × (base + key / 1024 < length (now numbers)) ⌝ }
+    requires { ⌜ (base ≤ areaSize) × (base + key / 1024 < length (now numbers)) ⌝ }
     ensures { λ r. ⌜ r ≡ marked (now (numbers .entry)) base key ⌝ }
 {
     let word = numbers[base + key / 1024];
@@ -36,7 +50,7 @@ pub fn is_bit_marked(numbers: &[u32], base: usize, i: usize, b: usize) -> bool
 
 // Marks a key.
 pub fn mark(numbers: &mut [u32], base: usize, key: usize)
-    requires { ⌜ (base ≤ 16384) × (base + key / 1024 < length (now numbers)) ⌝ }
+    requires { ⌜ (base ≤ areaSize) × (base + key / 1024 < length (now numbers)) ⌝ }
     ensures { λ _. ⌜ Marks (now (numbers .entry)) base key (now (numbers .exit)) ⌝ }
 {
     let at = base + key / 1024;

@@ -4,6 +4,7 @@ use mathlib.Core.List.{List}
 use mathlib.Core.Bool.{Bool, cond}
 use Prim.Native.Nat.{ℕ, _≤_, _<_}
 use lib.ListN.{length, getD, drop}
+use Rattle.marks.specs.Layout.{areaSize}
 use Rattle.placed_rows.specs.Rows.{row, Placed}
 use Rattle.search_area.specs.Answers.{Found, Joined}
 use Rattle.token_pair.specs.Pair.{PairReady, PairIs}
@@ -16,7 +17,7 @@ AllBelow n codes = (i : ℕ) → i < length codes → getD codes i 0 < n
 -- rows that may be looked up, and a list of codes with an output that has one number per code
 pub record LookupReady (file places : List ℕ) (n : ℕ) (area codes out : List ℕ) : Type 0 where
   pub placed : Placed file places n
-  pub area-room : 16384 ≤ length area
+  pub area-room : areaSize ≤ length area
   pub codes-below : AllBelow n codes
   pub out-room : length codes ≤ length out
 

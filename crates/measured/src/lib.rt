@@ -2,6 +2,7 @@
 ghost use mathlib.Core.Path.{_≡_};
 ghost use Prim.Native.Nat.{_≤_, _<_};
 ghost use lib.ListN.{length};
+ghost use Rattle.marks.specs.Layout.{areaSize};
 ghost use Rattle.placed_rows.specs.Rows.{row, Placed};
 ghost use Rattle.search_area.specs.Answers.{Found};
 ghost use Rattle.token_pair.specs.Pair.{PairReady};
@@ -17,7 +18,7 @@ use placed_rows::wide;
 // The row with the bytes of row x.
 fn find_row(file: &[u8], places: &[u32], n: usize, area: &[u32], x: u32) -> u32
     requires { ⌜ Placed (now file) (now places) n ⌝ }
-    requires { ⌜ (16384 ≤ length (now area)) × (x < n) ⌝ }
+    requires { ⌜ (areaSize ≤ length (now area)) × (x < n) ⌝ }
     ensures { λ r. ⌜ Found (now (file .entry)) (now (places .entry)) n (now (area .entry)) (row (now (file .entry)) (now (places .entry)) n x) r ⌝ }
 {
     let bytes = placed_rows::bytes_of(file, places, n, wide(x));

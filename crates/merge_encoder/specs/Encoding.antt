@@ -3,6 +3,7 @@ use mathlib.Core.Path.{_≡_}
 use mathlib.Core.List.{List, _++_}
 use Prim.Native.Nat.{ℕ, _≤_, _<_}
 use lib.ListN.{length, getD, drop}
+use Rattle.marks.specs.Layout.{areaSize}
 use Rattle.theory.specs.Dictionary.{Dictionary}
 use Rattle.theory.specs.Merge.{encode}
 use Rattle.tables.specs.Tables.{PairTables, withPrefixes}
@@ -12,7 +13,7 @@ use Rattle.built.specs.Built.{dictionaryOf, Built}
 -- the rows and the search area may be read
 pub record RowsReady (file places area : List ℕ) (n : ℕ) : Type 0 where
   pub places-ready : PlacesReady file places n
-  pub area-room : 16384 ≤ length area
+  pub area-room : areaSize ≤ length area
 
 -- and the parts of the rows
 pub record JoinsReady (P : PairTables) (n : ℕ) : Type 0 where

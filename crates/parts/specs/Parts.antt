@@ -7,6 +7,7 @@ use mathlib.Core.Option.{Option, some}
 use mathlib.Core.Option as Option
 use Prim.Native.Nat.{ℕ, _≤_, _<_}
 use lib.ListN.{length, getD, drop}
+use Rattle.marks.specs.Layout.{areaSize}
 use Rattle.theory.specs.Parts.{Parts, restOf, arePartsOf, partsOf, partsBelow}
 use Rattle.phrase_file.specs.Form.{rows}
 use Rattle.phrase_file.specs.Checks.{firstNot}
@@ -39,7 +40,7 @@ partsIn rows w = partsOf rows (partsBelow rows w) w
 pub record RowsFound (file places area : List ℕ) (n : ℕ) : Type 0 where
   pub places-ready : PlacesReady file places n
   pub distinct : Distinct file
-  pub area-room : 16384 ≤ length area
+  pub area-room : areaSize ≤ length area
   pub finds : Finds file places n area
 
 -- the prefixes of all rows

@@ -2,17 +2,16 @@
 ghost use mathlib.Core.Path.{_≡_};
 ghost use Prim.Native.Nat.{_≤_, _<_};
 ghost use lib.ListN.{length};
+ghost use Rattle.marks.specs.Layout.{areaSize};
 ghost use Rattle.parts.specs.Parts.{Looking, Beginner, RightPart, PrefixesFound, PartsFound, PartsFit, PartsFilled};
 ghost use Rattle.parts.specs.Marking.{PairsEmptied, Named, WriteFit, PartsWritten, SeamFit, SeamWritten};
 ghost use Rattle.tables.specs.Tables.{pairGiven};
+use marks::AREA;
+use marks::HINTS;
+use marks::PAIRS;
+use marks::SEAMS;
 use placed_rows::NONE;
 use placed_rows::wide;
-use token_pair::HINTS;
-use token_pair::PAIRS;
-use token_pair::SEAMS;
-
-// The end of the hints and of the marks in the search area.
-const PAIRS_END: usize = 16384;
 
 // The left and the right part of a row, or NONE twice.
 struct TokenParts {
@@ -88,11 +87,11 @@ fn find_parts(
 
 // The hints and the marks become NONE: no row is named, and no seam and no pair is marked.
 fn empty_pairs(area: &mut [u32])
-    requires { ⌜ 16384 ≤ length (now area) ⌝ }
+    requires { ⌜ areaSize ≤ length (now area) ⌝ }
     ensures { λ _. ⌜ PairsEmptied (now (area .entry)) (now (area .exit)) ⌝ }
 {
     let mut i = HINTS;
-    while i < PAIRS_END {
+    while i < AREA {
         area[i] = NONE;
         i += 1;
     }
@@ -117,7 +116,7 @@ fn with_row(number: u32, half: usize, w: usize) -> u32
 
 // Names row w as the one that has the two as its parts, unless another row is named at that place.
 fn name_row(area: &mut [u32], w: usize, left: u32, right: u32)
-    requires { ⌜ (w < 65535) × (16384 ≤ length (now area)) ⌝ }
+    requires { ⌜ (w < 65535) × (areaSize ≤ length (now area)) ⌝ }
     ensures { λ _. ⌜ Named (now (area .entry)) (now (area .exit)) ⌝ }
 {
     let place = token_pair::hint_place(left, right);

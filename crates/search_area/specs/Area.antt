@@ -5,11 +5,12 @@ use mathlib.Core.Bool.{Bool}
 use Prim.Native.Nat.{ℕ, _≤_, _<_}
 use lib.ListN.{length, take}
 use lib.Dec.{ltb}
+use Rattle.marks.specs.Layout.{hints}
 use Rattle.placed_rows.specs.Rows.{row}
 use Rattle.forest.specs.Words.{Indexed}
 
 abbrev pub frontHalf : List ℕ → List ℕ
-frontHalf area = take 12544 area
+frontHalf area = take hints area
 
 -- the front half lists the rows of S
 abbrev pub Holds : List ℕ → List ℕ → ℕ → List ℕ → (ℕ → Bool) → Type 0

@@ -2,6 +2,7 @@
 ghost use mathlib.Core.Path.{_≡_};
 ghost use Prim.Native.Nat.{ℕ, _+_, _<_, _≤_};
 ghost use lib.ListN.{length, drop};
+ghost use Rattle.marks.specs.Layout.{areaSize};
 ghost use Rattle.placed_rows.specs.Rows.{none, Placed};
 ghost use Rattle.search_area.specs.Answers.{NextMatch, LongerMatch, FirstMatch, Found, Joined};
 use placed_rows::Match;
@@ -17,7 +18,7 @@ pub fn next_match(
     at: usize,
 ) -> Match
     requires { ⌜ Placed (now file) (now places) n ⌝ }
-    requires { ⌜ (16384 ≤ length (now area)) × (at ≤ length (now text)) ⌝ }
+    requires { ⌜ (areaSize ≤ length (now area)) × (at ≤ length (now text)) ⌝ }
     ensures { λ r. ⌜ NextMatch (now (file .entry)) (now (places .entry)) n (now (area .entry)) (drop at (now (text .entry))) (r .row) (r .len) ⌝ }
 {
     forest::longest(file, places, n, area, text, at)
@@ -33,7 +34,7 @@ pub fn first_match(
     at: usize,
 ) -> Match
     requires { ⌜ Placed (now file) (now places) n ⌝ }
-    requires { ⌜ (16384 ≤ length (now area)) × (at ≤ length (now text)) ⌝ }
+    requires { ⌜ (areaSize ≤ length (now area)) × (at ≤ length (now text)) ⌝ }
     ensures { λ r. ⌜ FirstMatch (now (file .entry)) (now (places .entry)) n (now (area .entry)) (drop at (now (text .entry))) (r .row) (r .len) ⌝ }
 {
     if text.len() <= at {
@@ -57,7 +58,7 @@ pub fn longer_match(
     at: usize,
 ) -> Match
     requires { ⌜ Placed (now file) (now places) n ⌝ }
-    requires { ⌜ (row < n) × ((16384 ≤ length (now area)) × (at + len ≤ length (now text))) ⌝ }
+    requires { ⌜ (row < n) × ((areaSize ≤ length (now area)) × (at + len ≤ length (now text))) ⌝ }
     ensures { λ r. ⌜ LongerMatch (now (file .entry)) (now (places .entry)) n (now (area .entry)) (drop at (now (text .entry))) row len (r .row) (r .len) ⌝ }
 {
     forest::child(file, places, n, area, row, len, text, at + len)
@@ -66,7 +67,7 @@ pub fn longer_match(
 // The row with these bytes, or NONE.
 pub fn find(file: &[u8], places: &[u32], n: usize, area: &[u32], bytes: &[u8]) -> u32
     requires { ⌜ Placed (now file) (now places) n ⌝ }
-    requires { ⌜ 16384 ≤ length (now area) ⌝ }
+    requires { ⌜ areaSize ≤ length (now area) ⌝ }
     ensures { λ r. ⌜ Found (now (file .entry)) (now (places .entry)) n (now (area .entry)) (now (bytes .entry)) r ⌝ }
 {
     let m = forest::longest(file, places, n, area, bytes, 0);
@@ -78,7 +79,7 @@ pub fn find(file: &[u8], places: &[u32], n: usize, area: &[u32], bytes: &[u8]) -
 // The row with the bytes of row x followed by those of row y, or NONE.
 pub fn join(file: &[u8], places: &[u32], n: usize, area: &[u32], x: u32, y: u32) -> u32
     requires { ⌜ Placed (now file) (now places) n ⌝ }
-    requires { ⌜ (16384 ≤ length (now area)) × ((x < n) × (y < n)) ⌝ }
+    requires { ⌜ (areaSize ≤ length (now area)) × ((x < n) × (y < n)) ⌝ }
     ensures { λ r. ⌜ Joined (now (file .entry)) (now (places .entry)) n (now (area .entry)) x y r ⌝ }
 {
     let a = placed_rows::length_of(file, places, n, placed_rows::wide(x));

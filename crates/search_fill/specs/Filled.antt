@@ -3,6 +3,7 @@ use mathlib.Core.Path.{_≡_}
 use mathlib.Core.List.{List}
 use Prim.Native.Nat.{ℕ, _<_}
 use lib.ListN.{length, getD, drop}
+use Rattle.marks.specs.Layout.{hints}
 use Rattle.placed_rows.specs.Rows.{row}
 use Rattle.placed_rows.specs.Longest.{Below, Prefix}
 use Rattle.search_area.specs.Area.{Whole, Finds}
@@ -16,7 +17,7 @@ pub record Fillable (R : ℕ → List ℕ) (n : ℕ) : Type 0 where
 -- the search area area' finds every row, and its numbers from 12,544 on are those of area
 pub record AreaFilled (file places : List ℕ) (n : ℕ) (area area' : List ℕ) : Type 0 where
   pub area-length : length area' ≡ length area
-  pub area-beyond : drop 12544 area' ≡ drop 12544 area
+  pub area-beyond : drop hints area' ≡ drop hints area
   pub finds : Fillable (row file places n) n → Finds file places n area'
 
 -- the table prefixes' has the prefix of every row, and its entries from n on are those of prefixes

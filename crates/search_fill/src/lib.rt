@@ -2,32 +2,34 @@
 ghost use mathlib.Core.Path.{_≡_};
 ghost use Prim.Native.Nat.{ℕ, _+_, _*_, _<_, _≤_};
 ghost use lib.ListN.{length};
+ghost use Rattle.marks.specs.Layout.{areaSize};
 ghost use Rattle.placed_rows.specs.Rows.{row, Placed};
 ghost use Rattle.search_fill.specs.Filled.{AreaFilled, PrefixesFilled, Filled};
 ghost use Rattle.search_fill.specs.Steps.{emptied, RowIn, RowsIn, PrefixIs};
+use marks::HINTS;
 use placed_rows::NONE;
 
 // The front half is emptied.
 fn empty(area: &mut [u32])
-    requires { ⌜ 16384 ≤ length (now area) ⌝ }
+    requires { ⌜ areaSize ≤ length (now area) ⌝ }
     ensures { λ r. ⌜ now (area .exit) ≡ emptied (now (area .entry)) ⌝ }
 {
-    forest::clear(&mut area[..12544]);
+    forest::clear(&mut area[..HINTS]);
 }
 
 // Row c goes into the front half.
 fn add_row(file: &[u8], places: &[u32], n: usize, area: &mut [u32], c: usize)
     requires { ⌜ Placed (now file) (now places) n ⌝ }
-    requires { ⌜ (16384 ≤ length (now area)) × ((c < n) × (length (row (now file) (now places) n c) ≤ 64)) ⌝ }
+    requires { ⌜ (areaSize ≤ length (now area)) × ((c < n) × (length (row (now file) (now places) n c) ≤ 64)) ⌝ }
     ensures { λ r. ⌜ RowIn (now (file .entry)) (now (places .entry)) n (now (area .entry)) c (now (area .exit)) ⌝ }
 {
-    forest::insert(file, places, n, &mut area[..12544], c);
+    forest::insert(file, places, n, &mut area[..HINTS], c);
 }
 
 // All rows of len bytes go in.
 fn add_length(file: &[u8], places: &[u32], n: usize, area: &mut [u32], len: usize)
     requires { ⌜ Placed (now file) (now places) n ⌝ }
-    requires { ⌜ (16384 ≤ length (now area)) × (len ≤ 64) ⌝ }
+    requires { ⌜ (areaSize ≤ length (now area)) × (len ≤ 64) ⌝ }
     ensures { λ r. ⌜ RowsIn (now (file .entry)) (now (places .entry)) n (now (area .entry)) (len * 4096) (now (area .exit)) ((len + 1) * 4096) ⌝ }
 {
     let mut c = 0;
@@ -42,7 +44,7 @@ fn add_length(file: &[u8], places: &[u32], n: usize, area: &mut [u32], len: usiz
 // The search area is filled: shorter rows first, so that the prefix of a row is there before it.
 fn fill_area(file: &[u8], places: &[u32], n: usize, area: &mut [u32])
     requires { ⌜ Placed (now file) (now places) n ⌝ }
-    requires { ⌜ 16384 ≤ length (now area) ⌝ }
+    requires { ⌜ areaSize ≤ length (now area) ⌝ }
     ensures { λ r. ⌜ AreaFilled (now (file .entry)) (now (places .entry)) n (now (area .entry)) (now (area .exit)) ⌝ }
 {
     empty(area);
@@ -56,7 +58,7 @@ fn fill_area(file: &[u8], places: &[u32], n: usize, area: &mut [u32])
 // The prefix of row c: the longest row that begins what it has before its last byte.
 fn prefix_of(file: &[u8], places: &[u32], n: usize, area: &[u32], c: usize) -> u32
     requires { ⌜ Placed (now file) (now places) n ⌝ }
-    requires { ⌜ (16384 ≤ length (now area)) × (c < n) ⌝ }
+    requires { ⌜ (areaSize ≤ length (now area)) × (c < n) ⌝ }
     ensures { λ r. ⌜ PrefixIs (now (file .entry)) (now (places .entry)) n (now (area .entry)) c r ⌝ }
 {
     let bytes = placed_rows::bytes_of(file, places, n, c);
@@ -71,7 +73,7 @@ fn prefix_of(file: &[u8], places: &[u32], n: usize, area: &[u32], c: usize) -> u
 // The prefixes of all rows.
 fn fill_prefixes(file: &[u8], places: &[u32], n: usize, area: &[u32], prefixes: &mut [u32])
     requires { ⌜ Placed (now file) (now places) n ⌝ }
-    requires { ⌜ (16384 ≤ length (now area)) × (n ≤ length (now prefixes)) ⌝ }
+    requires { ⌜ (areaSize ≤ length (now area)) × (n ≤ length (now prefixes)) ⌝ }
     ensures { λ r. ⌜ PrefixesFilled (now (file .entry)) (now (places .entry)) n (now (area .entry)) (now (prefixes .entry)) (now (prefixes .exit)) ⌝ }
 {
     let mut c = 0;
@@ -84,7 +86,7 @@ fn fill_prefixes(file: &[u8], places: &[u32], n: usize, area: &[u32], prefixes: 
 // The search area and the prefixes of all rows.
 pub fn fill(file: &[u8], places: &[u32], n: usize, prefixes: &mut [u32], area: &mut [u32])
     requires { ⌜ Placed (now file) (now places) n ⌝ }
-    requires { ⌜ (n ≤ length (now prefixes)) × (16384 ≤ length (now area)) ⌝ }
+    requires { ⌜ (n ≤ length (now prefixes)) × (areaSize ≤ length (now area)) ⌝ }
     ensures { λ r. ⌜ Filled (now (file .entry)) (now (places .entry)) n (now (prefixes .entry)) (now (area .entry)) (now (prefixes .exit)) (now (area .exit)) ⌝ }
 {
     fill_area(file, places, n, area);

@@ -3,6 +3,7 @@ use mathlib.Core.Path.{_≡_}
 use mathlib.Core.List.{List, _++_}
 use Prim.Native.Nat.{ℕ, _≤_, _<_}
 use lib.ListN.{length, getD, drop}
+use Rattle.marks.specs.Layout.{areaSize}
 use Rattle.theory.specs.Shortest.{shortest, greedy}
 use Rattle.tables.specs.Tables.{tables}
 use Rattle.tables.specs.Ready.{PlacesReady}
@@ -23,7 +24,7 @@ pub record Codes (w out out' : List ℕ) (r : ℕ) : Type 0 where
 -- tables in form, a text, and a work buffer with one number per text byte
 pub record EntriesReady (file places area : List ℕ) (n : ℕ) (text work : List ℕ) : Type 0 where
   pub places-ready : PlacesReady file places n
-  pub area-room : 16384 ≤ length area
+  pub area-room : areaSize ≤ length area
   pub few : length text ≤ 4096
   pub room : length text ≤ length work
 
@@ -41,7 +42,7 @@ pub record MinimalIs (file places area : List ℕ) (n : ℕ) (text out out' work
 -- `encode_greedy`: the longest row at each place
 pub record GreedyReady (file places area : List ℕ) (n : ℕ) (text out : List ℕ) : Type 0 where
   pub places-ready : PlacesReady file places n
-  pub area-room : 16384 ≤ length area
+  pub area-room : areaSize ≤ length area
   pub few : length text ≤ 4096
   pub out-room : length text ≤ length out
 

@@ -2,6 +2,7 @@
 ghost use mathlib.Core.Path.{_≡_};
 ghost use Prim.Native.Nat.{ℕ, _≤_, _<_, min};
 ghost use lib.ListN.{length, drop};
+ghost use Rattle.marks.specs.Layout.{areaSize};
 ghost use Rattle.placed_rows.specs.Rows.{Placed};
 ghost use Rattle.search_area.specs.Answers.{NextMatch};
 ghost use Rattle.shortest_encoder.specs.Encoders.{EntriesReady, MinimalReady, MinimalIs, GreedyReady, GreedyIs};
@@ -125,7 +126,7 @@ pub fn encode_minimal_core(
 // The longest row that begins the text from at on, with its length, or NONE and 0. The rows are met, shortest first, until none is longer or the text ends.
 fn longest_at(file: &[u8], places: &[u32], area: &[u32], n: usize, text: &[u8], at: usize) -> Match
     requires { ⌜ Placed (now file) (now places) n ⌝ }
-    requires { ⌜ (16384 ≤ length (now area)) × (at ≤ length (now text)) ⌝ }
+    requires { ⌜ (areaSize ≤ length (now area)) × (at ≤ length (now text)) ⌝ }
     ensures { λ r. ⌜ NextMatch (now (file .entry)) (now (places .entry)) n (now (area .entry)) (drop at (now (text .entry))) (r .row) (r .len) ⌝ }
 {
     let first = search_area::first_match(file, places, n, area, text, at);

@@ -4,6 +4,7 @@ use mathlib.Core.Bool.{Bool, true, false, cond, _&&_, _||_}
 use Prim.Native.Nat.{ℕ, zero, suc, _+_}
 use lib.ListN.{length, getD, take}
 use lib.Dec.{ltb, leb, eqb}
+use Rattle.marks.specs.Layout.{areaSize}
 use Rattle.causes.specs.declared.BuildAnswer.{BuildAnswer}
 use Rattle.causes.specs.declared.BuildAnswer.the-variants.{Rows, Refused}
 use Rattle.phrase_file.specs.Form.{places, rows}
@@ -57,7 +58,7 @@ module _ (T : Tables) where
   unfoldable pub largeEnough : Bool
   largeEnough =
       leb (count file) (length placeTable) && (leb (count file) (length lefts) && (leb (count file) (length rights)
-      && (leb (count file) (length prefixes) && leb 16384 (length area))))
+      && (leb (count file) (length prefixes) && leb areaSize (length area))))
 
   -- tables in form: the file passes 2 to 4, the tables are large enough (only the first n entries count), places match the file,
   -- and prefix and parts of each row are in form

@@ -4,6 +4,7 @@ use mathlib.Core.List.{List, []}
 use mathlib.Core.Logic.{_⊎_}
 use Prim.Native.Nat.{ℕ, _+_, _≤_, _<_}
 use lib.ListN.{length, getD}
+use Rattle.marks.specs.Layout.{areaSize}
 use Rattle.phrase_file.specs.Form.{rows}
 use Rattle.placed_rows.specs.Rows.{none, row, Placed}
 use Rattle.tables.specs.Tables.{Tables}
@@ -41,4 +42,4 @@ pub record Ready (T : Tables) (n : ℕ) : Type 0 where
   pub places-ready : PlacesReady (T .file) (T .places) n
   pub parts-ready : PartsReady (T .file) (T .lefts) (T .rights) n
   pub prefixes-ready : PrefixesReady (T .file) (T .prefixes) n
-  pub area-room : 16384 ≤ length (T .area)
+  pub area-room : areaSize ≤ length (T .area)

@@ -9,6 +9,7 @@ ghost use Rattle.tables.specs.Steps.{Passed, PlacesMatch, RowOf, Room, s
 use causes::Answer;
 use causes::BuildAnswer;
 use causes::Cause;
+use marks::AREA;
 use placed_rows::NONE;
 use placed_rows::length_of;
 use placed_rows::wide;
@@ -130,7 +131,7 @@ pub fn tables_in_form(
     if prefixes.len() < n {
         return Form::Out;
     }
-    if area.len() < 16384 {
+    if area.len() < AREA {
         return Form::Out;
     }
     let mut sizes = [0u8; 4096];

@@ -6,6 +6,7 @@ use mathlib.Core.Bool.{Bool, true, false, _&&_}
 use Prim.Native.Nat.{ℕ, _+_, _-_, _*_, _/_, _%_, _≤_, _<_}
 use lib.ListN.{length, getD}
 use lib.Dec.{ltb, eqb}
+use Rattle.marks.specs.Layout.{seams, pairs, areaSize}
 use Rattle.theory.specs.Dictionary.{Dictionary}
 use Rattle.theory.specs.Paper.{listed}
 use Rattle.theory.specs.PairCheck.{listedBelow, passes}
@@ -42,7 +43,7 @@ rowBelow c m = elim (ltb c m) [ true ↦ c | false ↦ none ]
 
 -- the marks of pairs, from number 15,360 of the search area on: the two parts of every longer row below q are marked
 abbrev pub PairsMarked : List ℕ → List ℕ → List ℕ → ℕ → Type 0
-PairsMarked lefts rights area q = (c : ℕ) → c < q → getD lefts c 0 < c → marked area 15360 (pairKey (getD lefts c 0) (getD rights c 0)) ≡ true
+PairsMarked lefts rights area q = (c : ℕ) → c < q → getD lefts c 0 < c → marked area pairs (pairKey (getD lefts c 0) (getD rights c 0)) ≡ true
 
 -- the seam of two bytes, one of 16,384
 unfoldable pub seamBit : ℕ → ℕ → ℕ
@@ -65,13 +66,13 @@ seamAt file c l = seamKey (getD (getD (rows file) c []) (length (getD (rows file
 
 -- the marks of seams, numbers 14,848 to 15,359 of the search area: the seam between the parts of every longer row below q is marked
 abbrev pub SeamsMarked : List ℕ → List ℕ → List ℕ → ℕ → Type 0
-SeamsMarked file lefts area q = (c : ℕ) → c < q → getD lefts c 0 < c → marked area 14848 (seamAt file c (getD lefts c 0)) ≡ true
+SeamsMarked file lefts area q = (c : ℕ) → c < q → getD lefts c 0 < c → marked area seams (seamAt file c (getD lefts c 0)) ≡ true
 
 -- what may be read: the rows, the parts of the rows below q, and two such rows
 pub record PairReady (P : PairTables) (n q u v : ℕ) : Type 0 where
   pub places-ready : PlacesReady (P .file) (P .places) n
   pub parts-ready : PartsReady (P .file) (P .lefts) (P .rights) q
-  pub area-room : 16384 ≤ length (P .area)
+  pub area-room : areaSize ≤ length (P .area)
   pub few : q ≤ n
   pub left-below : u < q
   pub right-below : v < q
@@ -79,7 +80,7 @@ pub record PairReady (P : PairTables) (n q u v : ℕ) : Type 0 where
 -- what may be read for the seam of two rows
 pub record SeamReady (file places area : List ℕ) (n u v : ℕ) : Type 0 where
   pub places-ready : PlacesReady file places n
-  pub area-room : 16384 ≤ length area
+  pub area-room : areaSize ≤ length area
   pub left-below : u < n
   pub right-below : v < n
 
@@ -90,7 +91,7 @@ listedIn lefts rights c m u v = ltb c m && (eqb (getD lefts c 0) u && (ltb u c &
 -- what may be read for one join below m: the rows, the parts of the rows below q, and two rows
 pub record JoinReady (P : PairTables) (n q m u v : ℕ) : Type 0 where
   pub placed : Placed (P .file) (P .places) n
-  pub area-room : 16384 ≤ length (P .area)
+  pub area-room : areaSize ≤ length (P .area)
   pub left-room : q ≤ length (P .lefts)
   pub right-room : q ≤ length (P .rights)
   pub below : m ≤ q

@@ -4,19 +4,16 @@ ghost use Prim.Native.Nat.{_≤_, _<_};
 ghost use lib.ListN.{length};
 ghost use lib.Dec.{ltb, eqb};
 ghost use mathlib.Core.Bool.{_||_};
+ghost use Rattle.marks.specs.Layout.{seams, areaSize};
 ghost use Rattle.marks.specs.Marks.{marked};
 ghost use Rattle.token_pair.specs.Pair.{pairKey, hintPlace, rowBelow, seamBit, seamKey, firstByte, lastByte, listedIn, JoinReady, JoinIs, IsJoined, SeamReady, PairReady, PairIs, PassIs};
 ghost use Rattle.tables.specs.Tables.{pairGiven, pairLent};
+use marks::HINTS;
+use marks::PAIRS;
+use marks::SEAMS;
 use placed_rows::NONE;
 use placed_rows::bytes_of;
 use placed_rows::wide;
-
-// The numbers of the search area at which the hints, the marks of seams and the marks of pairs begin.
-pub const HINTS: usize = 12544;
-
-pub const SEAMS: usize = 14848;
-
-pub const PAIRS: usize = 15360;
 
 // The key of two codes among the marks of pairs.
 pub fn pair_key(left: u32, right: u32) -> usize
@@ -61,7 +58,7 @@ pub fn hint_place(left: u32, right: u32) -> usize
 
 // A hint: two of them are the halves of one number. Nothing is promised of it.
 fn hint_at(area: &[u32], place: usize) -> u32
-    requires { ⌜ (place < 4608) × (16384 ≤ length (now area)) ⌝ }
+    requires { ⌜ (place < 4608) × (areaSize ≤ length (now area)) ⌝ }
 {
     (area[HINTS + place / 2] >> (place % 2 * 16)) % 65536
 }
@@ -252,8 +249,8 @@ pub fn seam_key(a: u8, b: u8) -> usize
 
 // Whether the seam of two bytes is marked: if not, no row has a left part that ends in a and a right part that begins with b.
 fn may_join(area: &[u32], a: u8, b: u8) -> bool
-    requires { ⌜ 16384 ≤ length (now area) ⌝ }
-    ensures { λ r. ⌜ r ≡ marked (now (area .entry)) 14848 (seamKey a b) ⌝ }
+    requires { ⌜ areaSize ≤ length (now area) ⌝ }
+    ensures { λ r. ⌜ r ≡ marked (now (area .entry)) seams (seamKey a b) ⌝ }
 {
     let seam = seam_bit(a, b);
     marks::is_bit_marked(area, SEAMS, seam / 32, seam % 32)
@@ -262,7 +259,7 @@ fn may_join(area: &[u32], a: u8, b: u8) -> bool
 // Whether the seam of two rows is marked.
 fn may_meet(file: &[u8], places: &[u32], n: usize, area: &[u32], left: u32, right: u32) -> bool
     requires { ⌜ SeamReady (now file) (now places) (now area) n left right ⌝ }
-    ensures { λ r. ⌜ r ≡ marked (now (area .entry)) 14848 (seamKey (lastByte (now (file .entry)) left) (firstByte (now (file .entry)) right)) ⌝ }
+    ensures { λ r. ⌜ r ≡ marked (now (area .entry)) seams (seamKey (lastByte (now (file .entry)) left) (firstByte (now (file .entry)) right)) ⌝ }
 {
     let before = bytes_of(file, places, n, wide(left));
     let after = bytes_of(file, places, n, wide(right));

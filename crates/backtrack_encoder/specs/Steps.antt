@@ -1,4 +1,5 @@
--- What the functions of one step leave: on tables in form an encoder that may be used, and on what a build left the definition's state. Assumes nothing.
+-- What the functions of one step leave: on tables in form an encoder that may be used, and on what a build left the
+-- definition's state. Assumes nothing.
 use mathlib.Core.Path.{_≡_}
 use mathlib.Core.List.{List, _∷_}
 use mathlib.Core.Logic.{_⊎_}
@@ -25,22 +26,27 @@ abbrev pub EndsIn : List ℕ → List ℕ → BacktrackEncoder → ℕ → Type 
 EndsIn file text e c = e .pos + length (dictionaryOf file .bytes c) ≤ length text
 
 -- the place is marked dead and one code taken back
-pub record TakenBack (file : List ℕ) (n : ℕ) (text : List ℕ) (e : BacktrackEncoder) (work dead : List ℕ) (r : BacktrackEncoder) (dead' : List ℕ) : Type 0 where
+pub record TakenBack (file : List ℕ) (n : ℕ) (text : List ℕ) (e : BacktrackEncoder) (work dead : List ℕ)
+    (r : BacktrackEncoder) (dead' : List ℕ) : Type 0 where
   pub ready : EncoderReady file n text r work
   pub state : (s : State) → Shows (dictionaryOf file) text e work dead s
       → Shows (dictionaryOf file) text r work dead' (takeBack (dictionaryOf file) (s .stack) (s .dead))
 
 -- whether a row passes with the code before and its end is in the text and not dead
-pub record FitsIs (P : PairTables) (n : ℕ) (text : List ℕ) (e : BacktrackEncoder) (work dead : List ℕ) (c : ℕ) (r : Bool) : Type 0 where
+pub record FitsIs (P : PairTables) (n : ℕ) (text : List ℕ) (e : BacktrackEncoder) (work dead : List ℕ) (c : ℕ)
+    (r : Bool) : Type 0 where
   pub ends : r ≡ true → EndsIn (P .file) text e c
-  pub built : (prefixes : List ℕ) → Built (withPrefixes P prefixes) n → (s : State) → Shows (dictionaryOf (P .file)) text e work dead s → EndsIn (P .file) text e c
-      → r ≡ follows (dictionaryOf (P .file)) (s .stack) c && not (s .dead (place (dictionaryOf (P .file)) (c ∷ s .stack)))
+  pub built : (prefixes : List ℕ) → Built (withPrefixes P prefixes) n → (s : State)
+      → Shows (dictionaryOf (P .file)) text e work dead s → EndsIn (P .file) text e c
+      → r ≡ follows (dictionaryOf (P .file)) (s .stack) c
+      && not (s .dead (place (dictionaryOf (P .file)) (c ∷ s .stack)))
 
 module _ (file places area : List ℕ) (n : ℕ) (text : List ℕ) where
   -- the encoder of a text at the start, over any work buffer and all bits set
   pub record Started (r : BacktrackEncoder) : Type 0 where
     pub ready : (work : List ℕ) → EncoderReady file n text r work
-    pub built : (lefts rights prefixes : List ℕ) → Built (tables file places lefts rights prefixes area) n → (work dead : List ℕ) → isSet dead ≡ allSet
+    pub built : (lefts rights prefixes : List ℕ) → Built (tables file places lefts rights prefixes area) n
+        → (work dead : List ℕ) → isSet dead ≡ allSet
         → Shows (dictionaryOf file) text r work dead (start (dictionaryOf file) text)
 
   -- row c is added
@@ -48,8 +54,10 @@ module _ (file places area : List ℕ) (n : ℕ) (text : List ℕ) where
     pub ready : EncoderReady file n text r work'
     pub work-length : length work' ≡ length work
     pub work-beyond : drop (length text) work' ≡ drop (length text) work
-    pub built : (lefts rights prefixes : List ℕ) → Built (tables file places lefts rights prefixes area) n → (s : State) (dead : List ℕ)
-        → Shows (dictionaryOf file) text e work dead s → Shows (dictionaryOf file) text r work' dead (add (dictionaryOf file) text c (s .stack) (s .dead))
+    pub built : (lefts rights prefixes : List ℕ) → Built (tables file places lefts rights prefixes area) n
+        → (s : State) (dead : List ℕ)
+        → Shows (dictionaryOf file) text e work dead s
+        → Shows (dictionaryOf file) text r work' dead (add (dictionaryOf file) text c (s .stack) (s .dead))
 
 module _ (T : Tables) (n : ℕ) (text : List ℕ) where
   open Tables T using (file)
@@ -61,10 +69,12 @@ module _ (T : Tables) (n : ℕ) (text : List ℕ) where
         → rowOr r ≡ firstFit (dictionaryOf file) (s .stack) (s .dead) (s .next)
 
   -- a step adds or takes back one code: the state after k steps becomes the state after one more
-  pub record Stepped (e : BacktrackEncoder) (work dead : List ℕ) (r : BacktrackEncoder) (work' dead' : List ℕ) : Type 0 where
+  pub record Stepped (e : BacktrackEncoder) (work dead : List ℕ) (r : BacktrackEncoder)
+      (work' dead' : List ℕ) : Type 0 where
     pub ready : EncoderReady file n text r work'
     pub work-length : length work' ≡ length work
     pub work-beyond : drop (length text) work' ≡ drop (length text) work
     pub built : Built T n → (k : ℕ)
         → Shows (dictionaryOf file) text e work dead (run (dictionaryOf file) text k (start (dictionaryOf file) text))
-        → Shows (dictionaryOf file) text r work' dead' (run (dictionaryOf file) text (suc k) (start (dictionaryOf file) text))
+        → Shows (dictionaryOf file) text r work' dead'
+        (run (dictionaryOf file) text (suc k) (start (dictionaryOf file) text))

@@ -1,4 +1,5 @@
-// Sending and counting by backtracking: the source's backtrack_encoder.rs, and the functions of byte_pair_encoding.rs that run it.
+// Sending and counting by backtracking: the source's backtrack_encoder.rs, and the functions of byte_pair_encoding.rs
+// that run it.
 ghost use mathlib.Core.Path.{_≡_};
 ghost use mathlib.Core.List.{List, _++_};
 ghost use Prim.Native.Nat.{ℕ, _+_, _^_, _-_, _<_, _≤_, min};
@@ -20,8 +21,8 @@ use placed_rows::wide;
 use search_area::next_match;
 use token_pair::is_valid_pair;
 
-// The number of codes so far, the place that they reach, and the next row to try, NONE where nothing is left to try. The codes
-// stand at the front of a lent work buffer. The places that are not dead are the set bits of 65 words.
+// The number of codes so far, the place that they reach, and the next row to try, NONE where nothing is left to try.
+// The codes stand at the front of a lent work buffer. The places that are not dead are the set bits of 65 words.
 pub struct BacktrackEncoder {
     pub count: usize,
     pub pos: usize,
@@ -112,7 +113,8 @@ fn first_fit(
 
 // The encoder of a text before any step.
 pub fn start(file: &[u8], places: &[u32], area: &[u32], n: usize, text: &[u8]) -> BacktrackEncoder
-    requires { ⌜ PlacesReady (now file) (now places) n × ((areaSize ≤ length (now area)) × (length (now text) ≤ 4096)) ⌝ }
+    requires { ⌜ PlacesReady (now file) (now places) n × ((areaSize ≤ length (now area)) ×
+        (length (now text) ≤ 4096)) ⌝ }
     ensures { λ r. ⌜ Started (now (file .entry)) (now (places .entry)) (now (area .entry)) n (now (text .entry)) r ⌝ }
 {
     let found = next_match(file, places, n, area, text, 0);

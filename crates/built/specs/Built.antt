@@ -17,7 +17,8 @@ use Rattle.tables.specs.Tables.{Tables}
 unfoldable pub dictionaryOf : List ℕ → Dictionary
 dictionaryOf file = dictionary (rows file)
 
--- the file is accepted, the first n entries of each table are the definitions', and the search area finds every row and has every pair and every seam marked
+-- the file is accepted, the first n entries of each table are the definitions', and the search area finds every row
+-- and has every pair and every seam marked
 pub record Built (T : Tables) (n : ℕ) : Type 0 where
   pub passed : checkOf (T .file) ≡ Rows n
   pub accepted : Accepted (rows (T .file))

@@ -30,9 +30,11 @@ abbrev pub Counts : (T : Tables) (text work work' : List ℕ) → Answer → Typ
 Counts T text work work' r =
     Call toNumber (countRefusal T text work) (λ cause. work' ≡ work) (Counted T text work work') r
 
--- a count with a limit that is not refused: "over", or a count that is no more than the text's length and than the limit;
--- over tables that build left the definition's. Which of the two it is, and which such number, is free elsewhere
-pub record CountedTillLimit (T : Tables) (text : List ℕ) (limit : ℕ) (work work' : List ℕ) (limited : Limited) : Type 0 where
+-- a count with a limit that is not refused: "over", or a count that is no more than the text's length and than the
+-- limit; over tables that build left the definition's. Which of the two it is, and which such number, is free
+-- elsewhere
+pub record CountedTillLimit (T : Tables) (text : List ℕ) (limit : ℕ) (work work' : List ℕ)
+    (limited : Limited) : Type 0 where
   pub few : (count : ℕ) → limited ≡ counted count → (count ≤ length text) × (count ≤ limit)
   pub worked : Worked text work work'
   pub built : (n : ℕ) → Built T n → limited ≡ countTillLimit (dictionaryOf (T .file)) text limit

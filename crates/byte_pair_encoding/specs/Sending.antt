@@ -12,8 +12,8 @@ use Rattle.built.specs.Built.{dictionaryOf, Built}
 use Rattle.byte_pair_encoding.specs.Refusals.{sendRefusal}
 
 -- what holds without refusal on any tables in form: no more codes than bytes, each of them a row, at the front of the
--- output; "output beyond the answer is unchanged"; the work buffer is written no further than the text is long. Free are
--- the first numbers of the work buffer (scratch) and, where no build left the tables, which codes these are
+-- output; "output beyond the answer is unchanged"; the work buffer is written no further than the text is long. Free
+-- are the first numbers of the work buffer (scratch) and, where no build left the tables, which codes these are
 pub record Written (file text out work out' work' : List ℕ) (count : ℕ) : Type 0 where
   pub few : count ≤ length text
   pub out-length : length out' ≡ length out
@@ -28,11 +28,13 @@ pub record SentAll (w out out' : List ℕ) (count : ℕ) : Type 0 where
   pub codes-are : out' ≡ w ++ drop count out
 
 -- an encoder that sends M, and is not refused
-pub record Sent (M : Dictionary → List ℕ → List ℕ) (T : Tables) (text out work out' work' : List ℕ) (count : ℕ) : Type 0 where
+pub record Sent (M : Dictionary → List ℕ → List ℕ) (T : Tables) (text out work out' work' : List ℕ)
+    (count : ℕ) : Type 0 where
   pub written : Written (T .file) text out work out' work' count
   pub built : (n : ℕ) → Built T n → SentAll (M (dictionaryOf (T .file)) text) out out' count
 
 -- an encoder that sends M: a refusal leaves both buffers as they were; else the answer is the number of codes
 abbrev pub Sends : (M : Dictionary → List ℕ → List ℕ) (T : Tables) (text out work out' work' : List ℕ) → Answer → Type 0
 Sends M T text out work out' work' r =
-    Call toNumber (sendRefusal T text out work) (λ cause. (out' ≡ out) × (work' ≡ work)) (Sent M T text out work out' work') r
+    Call toNumber (sendRefusal T text out work) (λ cause. (out' ≡ out) × (work' ≡ work))
+    (Sent M T text out work out' work') r

@@ -39,7 +39,8 @@ fn told(limited: Limited) -> LimitAnswer
     }
 }
 
-// Whether a call is refused: a text over 4,096 bytes, an output or work buffer with less than one number per byte, tables out of form, in this order.
+// Whether a call is refused: a text over 4,096 bytes, an output or work buffer with less than one number per byte,
+// tables out of form, in this order.
 fn checked(
     file: &[u8],
     places: &[u32],
@@ -169,7 +170,8 @@ pub fn encode_via_table(
     }
 }
 
-// The fewest codes that spell the text, to the front of `out`, and how many; among those the longest first row, then the longest second, and so on.
+// The fewest codes that spell the text, to the front of `out`, and how many; among those the longest first row, then
+// the longest second, and so on.
 pub fn encode_minimal(
     file: &[u8],
     places: &[u32],
@@ -193,7 +195,8 @@ pub fn encode_minimal(
     }
 }
 
-// The longest row at each place, to the front of `out`, and how many. The work buffer is asked for, as of every encoder, and not used.
+// The longest row at each place, to the front of `out`, and how many. The work buffer is asked for, as of every
+// encoder, and not used.
 pub fn encode_greedy(
     file: &[u8],
     places: &[u32],

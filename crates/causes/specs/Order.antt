@@ -1,5 +1,5 @@
--- In which order a call looks for a cause to refuse: document 01, "Causes". A call names its conditions in any order; the
--- first by the order of its kind that applies is its refusal.
+-- In which order a call looks for a cause to refuse: document 01, "Causes". A call names its conditions in any order;
+-- the first by the order of its kind that applies is its refusal.
 use mathlib.Core.Option.{Option, none, some}
 use mathlib.Core.List.{List, [], _∷_}
 use mathlib.Core.Bool.{Bool, true, false, cond, _&&_}

@@ -1,5 +1,5 @@
-// Why a call is refused, for all calls, and what calls answer. An answer's number is 0 if it is no refusal, and its place
-// is then its value.
+// Why a call is refused, for all calls, and what calls answer. An answer's number is 0 if it is no refusal, and its
+// place is then its value.
 ghost use mathlib.Core.Path.{_≡_};
 ghost use Rattle.causes.specs.Causes.{refusalOf, buildAnswerOf, answerOf, pairAnswerOf, limitAnswerOf};
 

@@ -24,7 +24,11 @@ stored area c = getD area (8192 + c) 0
 -- whether a row with the hash h is met from row x on along the links, over rows below k: a link goes to a lower row
 unfoldable pub listed : List ℕ → ℕ → ℕ → ℕ → Bool
 listed area h zero x = false
-listed area h (suc k) x = elim (eqb x k) [ true ↦ eqb (stored area k) h || listed area h k (link area k) | false ↦ listed area h k x ]
+listed area h (suc k) x = elim (eqb x k) [
+  | true ↦ eqb (stored area k) h
+      || listed area h k (link area k)
+  | false ↦ listed area h k x
+]
 
 -- the scratch after row c with hash h was put at the front of its bucket
 unfoldable pub pushed : List ℕ → ℕ → ℕ → List ℕ

@@ -73,7 +73,8 @@ fn push(scratch: &mut [u32], row: usize, hash: u32)
 pub fn first_clash(file: &[u8], places: &[u32], n: usize, factor: u64, scratch: &mut [u32]) -> usize
     requires { ⌜ Placed (now file) (now places) n ⌝ }
     requires { ⌜ areaSize ≤ length (now scratch) ⌝ }
-    ensures { λ r. ⌜ ClashFound (now (file .entry)) (now (places .entry)) n factor (now (scratch .entry)) (now (scratch .exit)) r ⌝ }
+    ensures { λ r. ⌜ ClashFound (now (file .entry)) (now (places .entry)) n factor (now (scratch .entry))
+        (now (scratch .exit)) r ⌝ }
 {
     empty(scratch);
     let mut row = 0;

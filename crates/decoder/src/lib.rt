@@ -65,8 +65,8 @@ fn copy_bytes(source: &[u8], count: usize, out: &mut [u8])
     }
 }
 
-// Copies the first `count` bytes to the front of the output. Where there is room it copies 16 bytes at once, so the rest of the
-// output may change too.
+// Copies the first `count` bytes to the front of the output. Where there is room it copies 16 bytes at once, so the
+// rest of the output may change too.
 fn copy_row(source: &[u8], count: usize, out: &mut [u8])
     requires { ⌜ CopyReady (now source) count (now out) ⌝ }
     ensures { λ _. ⌜ Copied (now (source .entry)) count (now (out .entry)) (now (out .exit)) ⌝ }

@@ -29,7 +29,8 @@ abbrev pub lastCount : ℕ → List ℕ → ℕ
 lastCount zero counts = 0
 lastCount (suc i) counts = getD counts i 0
 
--- the answer: the refusal if there is one, else whether the number sent is the number counted and the count after the last byte typed
+-- the answer: the refusal if there is one, else whether the number sent is the number counted and the count after the
+-- last byte typed
 abbrev pub agreementOf : Option Cause → ℕ → ℕ → ℕ → Agreement
 agreementOf none sent counted last = cond (eqb sent counted && eqb sent last) (Agree sent) Differ
 agreementOf (some cause) sent counted last = Refused cause
@@ -40,9 +41,11 @@ pub record TypedCount (T : Tables) (text counts counts' : List ℕ) (r : ℕ) : 
   pub is : r ≡ lastCount typed counts'
   pub text-typed : TextTyped T append text counts typed counts'
 
--- what holds without refusal on any tables in form: output and work buffer are as the sender says; no more is counted than the text has bytes, no more bytes are
--- typed than it has and counts have room for, and counts beyond them are unchanged; all counts are where sender and counter differ, for then nothing is typed. Free are the
--- first numbers of the work buffer (scratch) and, where no build left the tables, the codes, the three numbers, how many bytes are typed and their counts
+-- what holds without refusal on any tables in form: output and work buffer are as the sender says; no more is counted
+-- than the text has bytes, no more bytes are typed than it has and counts have room for, and counts beyond them are
+-- unchanged; all counts are where sender and counter differ, for then nothing is typed. Free are the first numbers of
+-- the work buffer (scratch) and, where no build left the tables, the codes, the three numbers, how many bytes are
+-- typed and their counts
 pub record Compared (file text out work counts out' work' counts' : List ℕ) (sent counted typed : ℕ) : Type 0 where
   pub written : Written file text out work out' work' sent
   pub few-counted : counted ≤ length text
@@ -51,8 +54,9 @@ pub record Compared (file text out work counts out' work' counts' : List ℕ) (s
   pub counts-beyond : drop typed counts' ≡ drop typed counts
   pub counts-kept : (sent ≡ counted → ⊥) → counts' ≡ counts
 
--- what holds without refusal over tables that a build left: sender and counter have the merge procedure's number of codes, its codes stand at the front of the output, all bytes
--- are typed for which counts have room, and the counts are those of the merge procedure
+-- what holds without refusal over tables that a build left: sender and counter have the merge procedure's number of
+-- codes, its codes stand at the front of the output, all bytes are typed for which counts have room, and the counts
+-- are those of the merge procedure
 pub record AsMerged (file text out counts out' counts' : List ℕ) (sent counted typed : ℕ) : Type 0 where
   pub sent-is : sent ≡ length (encode (dictionaryOf file) text)
   pub counted-is : counted ≡ length (encode (dictionaryOf file) text)
@@ -60,8 +64,9 @@ pub record AsMerged (file text out counts out' counts' : List ℕ) (sent counted
   pub typed-is : typed ≡ min (length text) (length counts)
   pub counts-are : (i : ℕ) → i < typed → getD counts' i 0 ≡ countAt (dictionaryOf file) append text i
 
--- the sender against the counters. The refusal is the sender's (9, 7, 8) and leaves the three buffers as they were; the counter asks for less, and typing ends where counts have no
--- more room. Else the answer compares the three numbers, and over tables that a build left, with room for all counts, they agree: they are the merge procedure's
+-- the sender against the counters. The refusal is the sender's (9, 7, 8) and leaves the three buffers as they were;
+-- the counter asks for less, and typing ends where counts have no more room. Else the answer compares the three
+-- numbers, and over tables that a build left, with room for all counts, they agree: they are the merge procedure's
 pub record Agrees (T : Tables) (text out work counts out' work' counts' : List ℕ) (r : Agreement) : Type 0 where
   pub sent : ℕ
   pub counted : ℕ
@@ -73,4 +78,5 @@ pub record Agrees (T : Tables) (text out work counts out' work' counts' : List �
       → Compared (T .file) text out work counts out' work' counts' sent counted typed
   pub merged : (n : ℕ) → Built T n → sendRefusal T text out work ≡ none
       → AsMerged (T .file) text out counts out' counts' sent counted typed
-  pub built : (n : ℕ) → Built T n → Room text out work counts → r ≡ Agree (length (encode (dictionaryOf (T .file)) text))
+  pub built : (n : ℕ) → Built T n → Room text out work counts
+      → r ≡ Agree (length (encode (dictionaryOf (T .file)) text))

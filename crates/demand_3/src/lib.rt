@@ -1,4 +1,5 @@
-// The sender against the counters on one text: demand 3 as a promise about code. The whole demand is stated in proofs/Demand3.antt.
+// The sender against the counters on one text: demand 3 as a promise about code. The whole demand is stated in
+// proofs/Demand3.antt.
 ghost use Rattle.demand_3.specs.Agreement.{TypedCount, Agrees};
 ghost use Rattle.tables.specs.Tables.{lent, before, after};
 use causes::Answer;
@@ -45,8 +46,8 @@ fn typed_count(
     wide(counts[typed - 1])
 }
 
-// Sends the text, counts it and types it, and says whether the three numbers of codes are the same. Refused is what the sender refuses; the counter, which asks
-// for less, refuses nothing then.
+// Sends the text, counts it and types it, and says whether the three numbers of codes are the same. Refused is what
+// the sender refuses; the counter, which asks for less, refuses nothing then.
 pub fn sender_against_counters(
     file: &[u8],
     places: &[u32],

@@ -47,8 +47,10 @@ pub record Searched (file placeTable prefixes area : List ℕ) (n : ℕ) : Type 
   pub rows-found : RowsFound file placeTable area n
   pub prefixes-found : PrefixesFound file placeTable prefixes n
 
--- r is the lowest row with the hash of an earlier row; where there is none, places, prefixes and search area are found. What is beyond is unchanged
-pub record RowsFilled (file : List ℕ) (factor n : ℕ) (placeTable prefixes area placeTable' prefixes' area' : List ℕ) (r : ℕ) : Type 0 where
+-- r is the lowest row with the hash of an earlier row; where there is none, places, prefixes and search area are
+-- found. What is beyond is unchanged
+pub record RowsFilled (file : List ℕ) (factor n : ℕ) (placeTable prefixes area placeTable' prefixes' area' : List ℕ)
+    (r : ℕ) : Type 0 where
   pub answer : r ≡ sameHash file factor
   pub searched : n ≤ r → Searched file placeTable' prefixes' area' n
   pub places-length : length placeTable' ≡ length placeTable

@@ -71,8 +71,8 @@ fn clear_all(
     clear(area, AREA);
 }
 
-// Writes the places, looks for two rows with one hash and, where there are none, fills the prefixes and the search area.
-// Says which row is the lowest with the hash of an earlier row, n where there is none.
+// Writes the places, looks for two rows with one hash and, where there are none, fills the prefixes and the search
+// area. Says which row is the lowest with the hash of an earlier row, n where there is none.
 fn fill_rows(
     file: &[u8],
     factor: u64,

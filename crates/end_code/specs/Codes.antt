@@ -21,11 +21,13 @@ pub record ByteReady (file places area : List ℕ) (n : ℕ) (bytes : List ℕ) 
 -- a row, which is that of byte i
 pub record ByteIs (file places area : List ℕ) (n : ℕ) (bytes : List ℕ) (i r : ℕ) : Type 0 where
   pub row : r < n
-  pub built : (lefts rights prefixes : List ℕ) → Built (tables file places lefts rights prefixes area) n → r ≡ dictionaryOf file .code (getD bytes i 0)
+  pub built : (lefts rights prefixes : List ℕ) → Built (tables file places lefts rights prefixes area) n
+      → r ≡ dictionaryOf file .code (getD bytes i 0)
 
 -- the first i entries are the end codes of the shorter ones
 abbrev pub CodesTo : List ℕ → Bool → List ℕ → List ℕ → ℕ → Type 0
-CodesTo file at-end bytes codes i = (j : ℕ) → j < i → getD codes j 0 ≡ codeAt (dictionaryOf file) (sideOf at-end) bytes j
+CodesTo file at-end bytes codes i = (j : ℕ) → j < i
+    → getD codes j 0 ≡ codeAt (dictionaryOf file) (sideOf at-end) bytes j
 
 -- what the end code of the first i + 1 typed bytes needs: those bytes, and a row for each shorter one
 pub record CodeReady (P : PairTables) (n : ℕ) (bytes : List ℕ) (i : ℕ) (codes : List ℕ) : Type 0 where
@@ -34,6 +36,8 @@ pub record CodeReady (P : PairTables) (n : ℕ) (bytes : List ℕ) (i : ℕ) (co
   pub before : FrontRows n codes i
 
 -- a row; behind true end codes the end code of the first i + 1 typed bytes
-pub record CodeIs (P : PairTables) (at-end : Bool) (n : ℕ) (bytes : List ℕ) (i : ℕ) (codes : List ℕ) (r : ℕ) : Type 0 where
+pub record CodeIs (P : PairTables) (at-end : Bool) (n : ℕ) (bytes : List ℕ) (i : ℕ) (codes : List ℕ)
+    (r : ℕ) : Type 0 where
   pub row : r < n
-  pub built : (prefixes : List ℕ) → Built (withPrefixes P prefixes) n → CodesTo (P .file) at-end bytes codes i → r ≡ codeAt (dictionaryOf (P .file)) (sideOf at-end) bytes i
+  pub built : (prefixes : List ℕ) → Built (withPrefixes P prefixes) n → CodesTo (P .file) at-end bytes codes i
+      → r ≡ codeAt (dictionaryOf (P .file)) (sideOf at-end) bytes i

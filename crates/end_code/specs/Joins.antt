@@ -1,4 +1,5 @@
--- The first join of a row with the code beside which it is typed, over tables: what may be read, and what is answered. Assumes nothing.
+-- The first join of a row with the code beside which it is typed, over tables: what may be read, and what is
+-- answered. Assumes nothing.
 use mathlib.Core.Path.{_≡_}
 use mathlib.Core.Logic.{_⊎_}
 use mathlib.Core.List.{List}
@@ -48,7 +49,8 @@ pub record BesideReady (P : PairTables) (n m x s : ℕ) : Type 0 where
 -- the row below m that has x and, typed beside it, s as its parts
 pub record BesideIs (P : PairTables) (at-end : Bool) (n m x s r : ℕ) : Type 0 where
   pub bound : (r ≡ none) ⊎ (r < m)
-  pub built : (prefixes : List ℕ) → Built (withPrefixes P prefixes) n → x < n → s < n → JoinBelow (dictionaryOf (P .file)) (sideOf at-end) m x s r
+  pub built : (prefixes : List ℕ) → Built (withPrefixes P prefixes) n → x < n → s < n
+      → JoinBelow (dictionaryOf (P .file)) (sideOf at-end) m x s r
 
 -- what the first join needs: tables in form, and two rows
 pub record FirstReady (P : PairTables) (n u s : ℕ) : Type 0 where
@@ -59,4 +61,5 @@ pub record FirstReady (P : PairTables) (n u s : ℕ) : Type 0 where
 -- the lowest row that joins s and what u has at that end by then
 pub record FirstIs (P : PairTables) (at-end : Bool) (n u s r : ℕ) : Type 0 where
   pub bound : (r ≡ none) ⊎ (r < n)
-  pub built : (prefixes : List ℕ) → Built (withPrefixes P prefixes) n → FirstJoin (dictionaryOf (P .file)) (sideOf at-end) u s r
+  pub built : (prefixes : List ℕ) → Built (withPrefixes P prefixes) n
+      → FirstJoin (dictionaryOf (P .file)) (sideOf at-end) u s r

@@ -1,4 +1,5 @@
-// The interval calls for C, document 01's IntervalEncoding: each packs the answer of the public call of crate `interval_prepare` or `interval_count`.
+// The interval calls for C, document 01's IntervalEncoding: each packs the answer of the public call of crate
+// `interval_prepare` or `interval_count`.
 ghost use Rattle.tables.specs.Tables.{lent, before, after};
 ghost use Rattle.causes.specs.declared.Answer.{Answer};
 ghost use Rattle.causes.specs.Causes.{answerOf};
@@ -43,7 +44,8 @@ pub extern "C" fn bpe_interval_prepare(
     ))
 }
 
-// The number of codes of the piece from start to end, the byte at the end not included, over the tables that preparation left.
+// The number of codes of the piece from start to end, the byte at the end not included, over the tables that
+// preparation left.
 #[no_mangle]
 pub extern "C" fn bpe_interval_count(
     file: &[u8],

@@ -1,5 +1,6 @@
-// The C interface: every public call under the name `bpe_` and the call's name. A slice arrives as a pointer and a length in elements.
-// Each returns one number: the cause's number (0 for an answer) times 2^32, plus the place or the answer's number.
+// The C interface: every public call under the name `bpe_` and the call's name. A slice arrives as a pointer and a
+// length in elements. Each returns one number: the cause's number (0 for an answer) times 2^32, plus the place or the
+// answer's number.
 ghost use mathlib.Core.Path.{_≡_};
 ghost use mathlib.Core.List.{[], _∷_};
 ghost use Rattle.causes.specs.declared.Answer.{Answer};

@@ -83,8 +83,8 @@ pub extern "C" fn bpe_extend(
 // The first so many records kept; the answer is the new length. No tables are looked at, and the side does not matter.
 #[no_mangle]
 pub extern "C" fn bpe_truncate(keep: usize, head: &mut Head, states: &[State]) -> u64
-    ensures { λ r. ⌜ Packs answerOf (λ (a : Answer). Truncated
-        (now (head .entry) .len) (length (now (states .entry))) keep a (now (head .exit) .len)) r ⌝ }
+    ensures { λ r. ⌜ Packs answerOf (λ (a : Answer). Truncated (now (head .entry) .len)
+        (length (now (states .entry))) keep a (now (head .exit) .len)) r ⌝ }
 {
     let answer = typing::truncate(head, states, keep);
     pack_answer(answer)

@@ -1,4 +1,5 @@
--- What a lookup in the front half answers: on any contents a bounded answer, and where the half lists the rows of a set S, the true one. Assumes nothing.
+-- What a lookup in the front half answers: on any contents a bounded answer, and where the half lists the rows of a
+-- set S, the true one. Assumes nothing.
 use mathlib.Core.Path.{_≡_}
 use mathlib.Core.List.{List, [], _∷_, _++_}
 use mathlib.Core.Logic.{_⊎_}
@@ -10,7 +11,8 @@ use Rattle.placed_rows.specs.Texts.{Begins, begins}
 use Rattle.placed_rows.specs.Longest.{Known, Longest}
 use Rattle.forest.specs.Words.{word, tagAt, row-of, tag-of, more-of, In, Indexed}
 
--- w is the word of row d, whose prefix is q; where its byte beyond q is the first of rest, the bucket has told that q is p
+-- w is the word of row d, whose prefix is q; where its byte beyond q is the first of rest, the bucket has told that q
+-- is p
 pub record WordOf (R : ℕ → List ℕ) (n p len : ℕ) (rest : List ℕ) (w d q : ℕ) : Type 0 where
   pub below : d < n
   pub shorter : length (R q) < length (R d)
@@ -51,8 +53,10 @@ pub record Step (n len room r l : ℕ) : Type 0 where
 -- r is the child of p, of len bytes, that goes on as rest does, and l its length; none where there is no such child
 pub record ChildIs (R : ℕ → List ℕ) (n : ℕ) (half : List ℕ) (p len : ℕ) (rest : List ℕ) (r l : ℕ) : Type 0 where
   pub bound : (r ≡ none) ⊎ Step n len (length rest) r l
-  pub sound : (r ≡ none → ⊥) → (S : ℕ → Bool) (a : At R n half S p len) → Child R (a .index .par) (In S) p rest r × (l ≡ length (R r))
-  pub complete : r ≡ none → (S : ℕ → Bool) (a : At R n half S p len) (d : ℕ) → Child R (a .index .par) (In S) p rest d → ⊥
+  pub sound : (r ≡ none → ⊥) → (S : ℕ → Bool) (a : At R n half S p len)
+      → Child R (a .index .par) (In S) p rest r × (l ≡ length (R r))
+  pub complete : r ≡ none → (S : ℕ → Bool) (a : At R n half S p len) (d : ℕ) → Child R (a .index .par) (In S) p rest d
+      → ⊥
 
 -- w is the word of a row that is one byte longer than its prefix, and this byte is b
 pub record OneLonger (w b : ℕ) : Type 0 where

@@ -1,6 +1,7 @@
--- The arrangement of the front half of the search area: 4,352 heads of buckets, then 4,096 numbers of marks, one for each row, then 4,096 links. A bucket has the rows of one
--- hash of prefix and next byte. A head or a link holds a word, which packs a row, its tag and by how much it is longer than its prefix, or
--- none. A prefix and a next byte that are not marked have no row. Assumes nothing.
+-- The arrangement of the front half of the search area: 4,352 heads of buckets, then 4,096 numbers of marks, one for
+-- each row, then 4,096 links. A bucket has the rows of one hash of prefix and next byte. A head or a link holds a
+-- word, which packs a row, its tag and by how much it is longer than its prefix, or none. A prefix and a next byte
+-- that are not marked have no row. Assumes nothing.
 use mathlib.Core.Path.{_≡_}
 use mathlib.Core.List.{List, [], _∷_}
 use mathlib.Core.Logic.{_⊎_}
@@ -51,7 +52,11 @@ marksFrom = rowMarks
 -- the words from x on, by the links, at most k of them
 unfoldable pub walk : ℕ → List ℕ → ℕ → ℕ → List ℕ
 walk n half zero x = []
-walk n half (suc k) x = elim (ltb (x % 8192) n) [ true ↦ x ∷ walk n half k (getD half (links + x % 8192) 0) | false ↦ [] ]
+walk n half (suc k) x = elim (ltb (x % 8192) n) [
+  | true ↦ x
+      ∷ walk n half k (getD half (links + x % 8192) 0)
+  | false ↦ []
+]
 
 abbrev pub Mem : ℕ → List ℕ → Type 0
 Mem w [] = ⊥
@@ -82,7 +87,8 @@ pub record Entry (R : ℕ → List ℕ) (par : ℕ → ℕ) (S : ℕ → Bool) (
   pub is : w ≡ wordOf R par row
   pub home : home R par row ≡ h
 
--- the half lists the rows of S: each is marked and stands in its bucket, within as many steps as S has rows; a row of one byte stands first; and no other word stands in a bucket
+-- the half lists the rows of S: each is marked and stands in its bucket, within as many steps as S has rows; a row of
+-- one byte stands first; and no other word stands in a bucket
 pub record Indexed (R : ℕ → List ℕ) (n : ℕ) (half : List ℕ) (S : ℕ → Bool) : Type 0 where
   pub par : ℕ → ℕ
   pub forest : Forest R par (In S)

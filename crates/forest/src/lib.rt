@@ -86,8 +86,8 @@ fn may_have_child(half: &[u32], p: u32, b: u8) -> bool
     marks::is_bit_marked(half, ROW_MARKS, p as usize % 4096, b as usize % 32)
 }
 
-// Is w the word of a row whose prefix is p, of len bytes, and that goes on as the text from at on does? The bucket is that of p and the byte there, so that
-// a word with this byte has p as its prefix.
+// Is w the word of a row whose prefix is p, of len bytes, and that goes on as the text from at on does? The bucket is
+// that of p and the byte there, so that a word with this byte has p as its prefix.
 fn fits(
     file: &[u8],
     places: &[u32],
@@ -100,7 +100,8 @@ fn fits(
 ) -> bool
     requires { ⌜ Placed (now file) (now places) n ⌝ }
     requires { ⌜ (w % 8192 < n) × (at < length (now text)) ⌝ }
-    ensures { λ r. ⌜ Fits (row (now (file .entry)) (now (places .entry)) n) n p len (drop at (now (text .entry))) w r ⌝ }
+    ensures { λ r. ⌜ Fits (row (now (file .entry)) (now (places .entry)) n) n p len (drop at (now (text .entry))) w
+        r ⌝ }
 {
     if w / 8192 % 256 != text[at] as u32 {
         return false;
@@ -132,7 +133,8 @@ fn is_one_longer(w: u32, b: u8) -> bool
     w / 8192 == b as u32
 }
 
-// The child of p, of len bytes, that goes on as the text from at on does, among the rows of its bucket, whose first word is given, or NONE.
+// The child of p, of len bytes, that goes on as the text from at on does, among the rows of its bucket, whose first
+// word is given, or NONE.
 fn listed_child(
     file: &[u8],
     places: &[u32],
@@ -145,9 +147,11 @@ fn listed_child(
     at: usize,
 ) -> Match
     requires { ⌜ Placed (now file) (now places) n ⌝ }
-    requires { ⌜ (hints ≤ length (now half)) × ((at < length (now text)) × (first ≡ getD (now half) (bucketOf p (getD (now text) at 0)) 0)) ⌝ }
+    requires { ⌜ (hints ≤ length (now half)) × ((at < length (now text)) ×
+        (first ≡ getD (now half) (bucketOf p (getD (now text) at 0)) 0)) ⌝ }
     requires { ⌜ (getD (now text) at 0 < 256) × (len + (length (now text) - at) < 18446744073709551616) ⌝ }
-    ensures { λ r. ⌜ ChildIs (row (now (file .entry)) (now (places .entry)) n) n (now (half .entry)) p len (drop at (now (text .entry))) (r .row) (r .len) ⌝ }
+    ensures { λ r. ⌜ ChildIs (row (now (file .entry)) (now (places .entry)) n) n (now (half .entry)) p len
+        (drop at (now (text .entry))) (r .row) (r .len) ⌝ }
 {
     let mut w = first;
     let mut left = n;
@@ -183,9 +187,11 @@ fn bucket_child(
     at: usize,
 ) -> Match
     requires { ⌜ Placed (now file) (now places) n ⌝ }
-    requires { ⌜ (hints ≤ length (now half)) × ((at < length (now text)) × (first ≡ getD (now half) (bucketOf p (getD (now text) at 0)) 0)) ⌝ }
+    requires { ⌜ (hints ≤ length (now half)) × ((at < length (now text)) ×
+        (first ≡ getD (now half) (bucketOf p (getD (now text) at 0)) 0)) ⌝ }
     requires { ⌜ len + (length (now text) - at) < 18446744073709551616 ⌝ }
-    ensures { λ r. ⌜ ChildIs (row (now (file .entry)) (now (places .entry)) n) n (now (half .entry)) p len (drop at (now (text .entry))) (r .row) (r .len) ⌝ }
+    ensures { λ r. ⌜ ChildIs (row (now (file .entry)) (now (places .entry)) n) n (now (half .entry)) p len
+        (drop at (now (text .entry))) (r .row) (r .len) ⌝ }
 {
     let next = text[at];
     if n <= row_of(first) {
@@ -227,7 +233,8 @@ pub fn child(
     requires { ⌜ Placed (now file) (now places) n ⌝ }
     requires { ⌜ (p < n) × ((hints ≤ length (now half)) × (at ≤ length (now text))) ⌝ }
     requires { ⌜ len + (length (now text) - at) < 18446744073709551616 ⌝ }
-    ensures { λ r. ⌜ ChildIs (row (now (file .entry)) (now (places .entry)) n) n (now (half .entry)) p len (drop at (now (text .entry))) (r .row) (r .len) ⌝ }
+    ensures { λ r. ⌜ ChildIs (row (now (file .entry)) (now (places .entry)) n) n (now (half .entry)) p len
+        (drop at (now (text .entry))) (r .row) (r .len) ⌝ }
 {
     if text.len() <= at {
         return no_match();
@@ -263,7 +270,8 @@ pub fn descend(
     requires { ⌜ Placed (now file) (now places) n ⌝ }
     requires { ⌜ (from < n) × ((hints ≤ length (now half)) × (at ≤ length (now text))) ⌝ }
     requires { ⌜ len + (length (now text) - at) < 18446744073709551616 ⌝ }
-    ensures { λ r. ⌜ Descent (row (now (file .entry)) (now (places .entry)) n) n (now (half .entry)) from len (drop at (now (text .entry))) (r .row) (r .len) ⌝ }
+    ensures { λ r. ⌜ Descent (row (now (file .entry)) (now (places .entry)) n) n (now (half .entry)) from len
+        (drop at (now (text .entry))) (r .row) (r .len) ⌝ }
 {
     let mut best = from;
     let mut end = at;
@@ -309,7 +317,8 @@ pub fn descend(
 fn root_child(file: &[u8], places: &[u32], n: usize, half: &[u32], text: &[u8], at: usize) -> Match
     requires { ⌜ Placed (now file) (now places) n ⌝ }
     requires { ⌜ (hints ≤ length (now half)) × (at ≤ length (now text)) ⌝ }
-    ensures { λ r. ⌜ ChildIs (row (now (file .entry)) (now (places .entry)) n) n (now (half .entry)) none 0 (drop at (now (text .entry))) (r .row) (r .len) ⌝ }
+    ensures { λ r. ⌜ ChildIs (row (now (file .entry)) (now (places .entry)) n) n (now (half .entry)) none 0
+        (drop at (now (text .entry))) (r .row) (r .len) ⌝ }
 {
     if text.len() <= at {
         return no_match();
@@ -331,7 +340,8 @@ fn root_child(file: &[u8], places: &[u32], n: usize, half: &[u32], text: &[u8], 
 pub fn longest(file: &[u8], places: &[u32], n: usize, half: &[u32], text: &[u8], at: usize) -> Match
     requires { ⌜ Placed (now file) (now places) n ⌝ }
     requires { ⌜ (hints ≤ length (now half)) × (at ≤ length (now text)) ⌝ }
-    ensures { λ r. ⌜ Descent (row (now (file .entry)) (now (places .entry)) n) n (now (half .entry)) none 0 (drop at (now (text .entry))) (r .row) (r .len) ⌝ }
+    ensures { λ r. ⌜ Descent (row (now (file .entry)) (now (places .entry)) n) n (now (half .entry)) none 0
+        (drop at (now (text .entry))) (r .row) (r .len) ⌝ }
 {
     let m = root_child(file, places, n, half, text, at);
     let r = m.row;
@@ -379,7 +389,8 @@ fn bucket_of(p: u32, b: u8) -> usize
 pub fn insert(file: &[u8], places: &[u32], n: usize, half: &mut [u32], c: usize)
     requires { ⌜ Placed (now file) (now places) n ⌝ }
     requires { ⌜ (hints ≤ length (now half)) × ((c < n) × (length (row (now file) (now places) n c) ≤ 64)) ⌝ }
-    ensures { λ r. ⌜ Inserted (row (now (file .entry)) (now (places .entry)) n) n (now (half .entry)) c (now (half .exit)) ⌝ }
+    ensures { λ r. ⌜ Inserted (row (now (file .entry)) (now (places .entry)) n) n (now (half .entry)) c
+        (now (half .exit)) ⌝ }
 {
     let bytes = placed_rows::bytes_of(file, places, n, c);
     let m = longest(file, places, n, half, bytes, 0);

@@ -29,24 +29,28 @@ anyOut Out text lastCodes numbers ends depths = true
 abbrev pub badInterval : List ℕ → ℕ → ℕ → Bool
 badInterval text from to = ltb to from || ltb (length text) to
 
--- tables in form, a text of at most 4,096 bytes with a work buffer for it, interval tables in form and an interval of the text
-pub record CoreReady (T : Tables) (n : ℕ) (text lastCodes numbers ends depths : List ℕ) (from to : ℕ) (work : List ℕ) : Type 0 where
+-- tables in form, a text of at most 4,096 bytes with a work buffer for it, interval tables in form and an interval of
+-- the text
+pub record CoreReady (T : Tables) (n : ℕ) (text lastCodes numbers ends depths : List ℕ) (from to : ℕ)
+    (work : List ℕ) : Type 0 where
   pub ready : TextReady T n text work
   pub in-form : intervalInForm n text lastCodes numbers ends depths ≡ true
   pub ordered : from ≤ to
   pub inside : to ≤ length text
 
--- what holds on any tables in form: a number that is left free but for this bound, and a work buffer that is written no further than the text is long
--- and whose first numbers are free
+-- what holds on any tables in form: a number that is left free but for this bound, and a work buffer that is written
+-- no further than the text is long and whose first numbers are free
 pub record Counted (text work : List ℕ) (r : ℕ) (work' : List ℕ) : Type 0 where
   pub few : r ≤ 2 * length text + 1
   pub work-length : length work' ≡ length work
   pub work-beyond : drop (length text) work' ≡ drop (length text) work
 
 -- the count of the interval, over tables that build left and the prepared tables of the text
-pub record CoreCounts (T : Tables) (n : ℕ) (text lastCodes numbers ends depths : List ℕ) (from to : ℕ) (work : List ℕ) (r : ℕ) (work' : List ℕ) : Type 0 where
+pub record CoreCounts (T : Tables) (n : ℕ) (text lastCodes numbers ends depths : List ℕ) (from to : ℕ) (work : List ℕ)
+    (r : ℕ) (work' : List ℕ) : Type 0 where
   pub counted : Counted text work r work'
-  pub built : Built T n → Prepared (T .file) text lastCodes numbers ends depths → r ≡ intervalCount (dictionaryOf (T .file)) text from to
+  pub built : Built T n → Prepared (T .file) text lastCodes numbers ends depths
+      → r ≡ intervalCount (dictionaryOf (T .file)) text from to
 
 module _ (T : Tables) (text lastCodes numbers ends depths : List ℕ) (from to : ℕ) (work : List ℕ) where
   -- why the interval count is refused: 9, 7, 8, 11
@@ -59,8 +63,8 @@ module _ (T : Tables) (text lastCodes numbers ends depths : List ℕ) (from to :
       ∷ when (badInterval text from to) BadInterval
       ∷ [])
 
-  -- a count that is not refused: over tables that build left and the prepared tables of the text the count of the piece,
-  -- the byte at the end not included. Which number it is elsewhere is free
+  -- a count that is not refused: over tables that build left and the prepared tables of the text the count of the
+  -- piece, the byte at the end not included. Which number it is elsewhere is free
   pub record IntervalCounted (work' : List ℕ) (count : ℕ) : Type 0 where
     pub counted : Counted text work count work'
     pub built : (n : ℕ) → Built T n → Prepared (T .file) text lastCodes numbers ends depths

@@ -1,4 +1,5 @@
--- The functions under the interval count: where the prepared tables take over, and the count of a piece. Assumes nothing.
+-- The functions under the interval count: where the prepared tables take over, and the count of a piece. Assumes
+-- nothing.
 use mathlib.Core.Path.{_≡_}
 use mathlib.Core.List.{List}
 use mathlib.Core.Bool.{Bool, true}
@@ -20,7 +21,8 @@ pub record MeetsReady (e : BacktrackEncoder) (work lastCodes numbers ends : List
   pub numbers-room : to < length numbers
   pub ends-room : to < length ends
 
--- the encoder's last code is that of the prefix up to its place, and the number of the prefix up to `to` is among those of that prefix
+-- the encoder's last code is that of the prefix up to its place, and the number of the prefix up to `to` is among
+-- those of that prefix
 pub record Meets (e : BacktrackEncoder) (work lastCodes numbers ends : List ℕ) (from to : ℕ) : Type 0 where
   pub some : 0 < e .count
   pub same-code : getD lastCodes (from + e .pos - 1) 0 ≡ getD work (e .count - 1) 0
@@ -36,8 +38,10 @@ pub record BetweenReady (depths : List ℕ) (place to : ℕ) : Type 0 where
   pub place-room : place < length depths
   pub to-room : to < length depths
 
--- tables in form, a piece from `from` to `to` of at most 4,096 bytes, a work buffer with one number per byte, and interval tables with entries up to `to`
-pub record PieceReady (T : Tables) (n : ℕ) (piece lastCodes numbers ends depths : List ℕ) (from to : ℕ) (work : List ℕ) : Type 0 where
+-- tables in form, a piece from `from` to `to` of at most 4,096 bytes, a work buffer with one number per byte, and
+-- interval tables with entries up to `to`
+pub record PieceReady (T : Tables) (n : ℕ) (piece lastCodes numbers ends depths : List ℕ) (from to : ℕ)
+    (work : List ℕ) : Type 0 where
   pub ready : TextReady T n piece work
   pub size : from + length piece ≡ to
   pub short : to ≤ 4096
@@ -47,9 +51,11 @@ pub record PieceReady (T : Tables) (n : ℕ) (piece lastCodes numbers ends depth
   pub depths-room : to < length depths
   pub shallow : getD depths to 0 ≤ 4097
 
--- the number of codes of the piece, if a build left the tables and the interval tables are the prepared ones of a text that has this piece; else no more
--- than its bytes and the depth at `to`. The work buffer is written no further than the piece is long; its first numbers are free
-pub record PieceCounts (T : Tables) (n : ℕ) (piece lastCodes numbers ends depths : List ℕ) (from to : ℕ) (work : List ℕ) (r : ℕ) (work' : List ℕ) : Type 0 where
+-- the number of codes of the piece, if a build left the tables and the interval tables are the prepared ones of a
+-- text that has this piece; else no more than its bytes and the depth at `to`. The work buffer is written no further
+-- than the piece is long; its first numbers are free
+pub record PieceCounts (T : Tables) (n : ℕ) (piece lastCodes numbers ends depths : List ℕ) (from to : ℕ)
+    (work : List ℕ) (r : ℕ) (work' : List ℕ) : Type 0 where
   pub few : r ≤ length piece + getD depths to 0
   pub work-length : length work' ≡ length work
   pub work-beyond : drop (length piece) work' ≡ drop (length piece) work

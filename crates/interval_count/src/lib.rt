@@ -74,8 +74,8 @@ fn interval_in_form(
     tree_in_form(text, depths)
 }
 
-// Whether the prepared tables take over at the encoder's place: its last code is that of the prefix up to there, and the prefix up to
-// the interval's end is that prefix or below it.
+// Whether the prepared tables take over at the encoder's place: its last code is that of the prefix up to there, and
+// the prefix up to the interval's end is that prefix or below it.
 fn meets(
     encoder: BacktrackEncoder,
     work: &[u32],
@@ -209,7 +209,8 @@ pub fn count_core(
     )
 }
 
-// The number of codes of the piece from `start` to `end`, the byte at the end not included: the source's `IntervalEncoding::count`.
+// The number of codes of the piece from `start` to `end`, the byte at the end not included: the source's
+// `IntervalEncoding::count`.
 pub fn count(
     file: &[u8],
     places: &[u32],

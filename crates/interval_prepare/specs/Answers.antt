@@ -26,7 +26,8 @@ shortTree table text = ltb (length table) (length text + 1)
 -- preparation needs output and work buffers with one number per text byte, tree tables one more
 unfoldable pub tooShort : List ℕ → List ℕ → List ℕ → List ℕ → List ℕ → List ℕ → Bool
 tooShort text lastCodes numbers ends depths work =
-    shorter lastCodes text || (shorter work text || (shortTree numbers text || (shortTree ends text || shortTree depths text)))
+    shorter lastCodes text
+    || (shorter work text || (shortTree numbers text || (shortTree ends text || shortTree depths text)))
 
 module _ (lastCodes numbers ends depths work lastCodes' numbers' ends' depths' work' : List ℕ) where
   -- all buffers are as before
@@ -37,8 +38,9 @@ module _ (lastCodes numbers ends depths work lastCodes' numbers' ends' depths' w
     pub depths-same : depths' ≡ depths
     pub work-same : work' ≡ work
 
-  -- without refusal, on any tables in form: the buffers are written no further than preparation needs, and the interval tables are in form.
-  -- Which entries they have is free where no build left the tables, and the first numbers of the work buffer are free
+  -- without refusal, on any tables in form: the buffers are written no further than preparation needs, and the
+  -- interval tables are in form. Which entries they have is free where no build left the tables, and the first
+  -- numbers of the work buffer are free
   pub record Filled (text : List ℕ) (n : ℕ) : Type 0 where
     pub codes-length : length lastCodes' ≡ length lastCodes
     pub codes-beyond : drop (length text) lastCodes' ≡ drop (length text) lastCodes
@@ -60,9 +62,11 @@ pub record CoreReady (P : PairTables) (n : ℕ) (text lastCodes numbers ends dep
   pub work-room : length text ≤ length work
 
 -- the tables filled; over tables that build left they are the prepared ones of the text
-pub record CorePrepares (P : PairTables) (n : ℕ) (text lastCodes numbers ends depths work lastCodes' numbers' ends' depths' work' : List ℕ) : Type 0 where
+pub record CorePrepares (P : PairTables) (n : ℕ)
+    (text lastCodes numbers ends depths work lastCodes' numbers' ends' depths' work' : List ℕ) : Type 0 where
   pub filled : Filled lastCodes numbers ends depths work lastCodes' numbers' ends' depths' work' text n
-  pub built : (prefixes : List ℕ) → Built (withPrefixes P prefixes) n → Prepared (P .file) text lastCodes' numbers' ends' depths'
+  pub built : (prefixes : List ℕ) → Built (withPrefixes P prefixes) n
+      → Prepared (P .file) text lastCodes' numbers' ends' depths'
 
 module _ (T : Tables) (text lastCodes numbers ends depths work : List ℕ) where
   -- why preparation is refused: 9, 7, 8
@@ -74,11 +78,12 @@ module _ (T : Tables) (text lastCodes numbers ends depths work : List ℕ) where
       ∷ when (isOut (formOf T)) OutOfForm
       ∷ [])
 
-  -- preparation that is not refused: the answer is the number of prefixes filled, the text's length, and over tables that
-  -- build left the interval tables are the prepared ones of the text
+  -- preparation that is not refused: the answer is the number of prefixes filled, the text's length, and over tables
+  -- that build left the interval tables are the prepared ones of the text
   pub record PreparesAll (lastCodes' numbers' ends' depths' work' : List ℕ) (number : ℕ) : Type 0 where
     pub number-is : number ≡ length text
-    pub filled : Filled lastCodes numbers ends depths work lastCodes' numbers' ends' depths' work' text (length (rows (T .file)))
+    pub filled : Filled lastCodes numbers ends depths work lastCodes' numbers' ends' depths' work' text
+        (length (rows (T .file)))
     pub built : (n : ℕ) → Built T n → Prepared (T .file) text lastCodes' numbers' ends' depths'
 
   -- `IntervalEncoding::new`: a refusal leaves all buffers as they were

@@ -1,4 +1,5 @@
--- The functions under preparation: the tree of the prefixes as a table of last codes gives it, over any table of rows. Assumes nothing.
+-- The functions under preparation: the tree of the prefixes as a table of last codes gives it, over any table of
+-- rows. Assumes nothing.
 use mathlib.Core.Path.{_≡_}
 use mathlib.Core.List.{List}
 use Prim.Native.Nat.{ℕ, zero, suc, _+_, _-_, _≤_, _<_}
@@ -70,7 +71,8 @@ pub record ChildReady (i parent size : ℕ) (numbers ends depths : List ℕ) : T
   pub size-fits : getD ends parent 0 + size < 4294967296
   pub depth-fits : getD depths parent 0 + 1 < 4294967296
 
--- prefix i has the number that its parent's end was, which is moved by the size of i; its own end is one past its number
+-- prefix i has the number that its parent's end was, which is moved by the size of i; its own end is one past its
+-- number
 pub record ChildPlaced (i parent size : ℕ) (numbers ends depths numbers' ends' depths' : List ℕ) : Type 0 where
   pub numbers-are : numbers' ≡ set numbers i (getD ends parent 0)
   pub ends-are : ends' ≡ set (set ends i (getD ends parent 0 + 1)) parent (getD ends parent 0 + size)

@@ -10,7 +10,8 @@ use Rattle.theory.specs.Tree.{treeNumber, treeEnd, depth}
 use Rattle.tables.specs.InForm.{allBelow}
 use Rattle.built.specs.Built.{dictionaryOf}
 
--- "last code, tree number, tree end and depth from a text": the last code of each prefix but the empty one, the others of each prefix
+-- "last code, tree number, tree end and depth from a text": the last code of each prefix but the empty one, the
+-- others of each prefix
 pub record Prepared (file text lastCodes numbers ends depths : List ℕ) : Type 0 where
   pub last-codes : (i : ℕ) → i < length text → getD lastCodes i 0 ≡ lastCode (dictionaryOf file) (take (suc i) text)
   pub numbers-are : (i : ℕ) → i ≤ length text → getD numbers i 0 ≡ treeNumber (dictionaryOf file) text i
@@ -19,14 +20,16 @@ pub record Prepared (file text lastCodes numbers ends depths : List ℕ) : Type 
 
 -- a table of last codes has one entry per byte, and these are below n
 unfoldable pub codesInForm : ℕ → List ℕ → List ℕ → Bool
-codesInForm n text lastCodes = leb (length text) (length lastCodes) && allBelow (length text) (λ i. ltb (getD lastCodes i 0) n)
+codesInForm n text lastCodes =
+    leb (length text) (length lastCodes) && allBelow (length text) (λ i. ltb (getD lastCodes i 0) n)
 
 -- a tree table has one entry more, and none of these exceeds the text's length + 1
 unfoldable pub treeInForm : List ℕ → List ℕ → Bool
-treeInForm text table = leb (length text + 1) (length table) && allBelow (length text + 1) (λ i. leb (getD table i 0) (length text + 1))
+treeInForm text table =
+    leb (length text + 1) (length table) && allBelow (length text + 1) (λ i. leb (getD table i 0) (length text + 1))
 
--- interval tables in form: as long as preparation needs, and among the entries that it fills each last code is below n and no other entry
--- exceeds the text's length + 1
+-- interval tables in form: as long as preparation needs, and among the entries that it fills each last code is below
+-- n and no other entry exceeds the text's length + 1
 unfoldable pub intervalInForm : ℕ → List ℕ → List ℕ → List ℕ → List ℕ → List ℕ → Bool
 intervalInForm n text lastCodes numbers ends depths =
     codesInForm n text lastCodes && (treeInForm text numbers && (treeInForm text ends && treeInForm text depths))

@@ -1,8 +1,9 @@
--- The search area, "of 16,384 32-bit numbers": where each part of it begins. `docs/search-area.md` says what stands there, and who
--- reads and writes it.
+-- The search area, "of 16,384 32-bit numbers": where each part of it begins. `docs/search-area.md` says what stands
+-- there, and who reads and writes it.
 use Prim.Native.Nat.{ℕ}
 
--- the first word of each bucket of rows stands at 0; then a number for each row, in which the next bytes of longer rows are marked
+-- the first word of each bucket of rows stands at 0; then a number for each row, in which the next bytes of longer
+-- rows are marked
 abbrev pub rowMarks : ℕ
 rowMarks = 4352
 

@@ -22,7 +22,8 @@ pub record Answers (meets : Answer → Type 0) (r : ℕ) : Type 0 where
 module _ (T : Tables) (n : ℕ) (text lastCodes numbers ends depths : List ℕ) where
   open Tables T using (file)
 
-  -- tables in form, a text with a work buffer for it, interval tables in form, at most 4,096 pieces of the text, and an output that has one number per piece
+  -- tables in form, a text with a work buffer for it, interval tables in form, at most 4,096 pieces of the text, and
+  -- an output that has one number per piece
   pub record PiecesReady (froms tos work out : List ℕ) : Type 0 where
     pub ready : TextReady T n text work
     pub in-form : intervalInForm n text lastCodes numbers ends depths ≡ true
@@ -35,7 +36,8 @@ module _ (T : Tables) (n : ℕ) (text lastCodes numbers ends depths : List ℕ) 
   -- the count of a piece, over tables that build left and the prepared tables of the text; elsewhere a bounded number
   pub record PieceNumber (from to r : ℕ) : Type 0 where
     pub few : r ≤ 2 * length text + 1
-    pub built : Built T n → Prepared file text lastCodes numbers ends depths → r ≡ intervalCount (dictionaryOf file) text from to
+    pub built : Built T n → Prepared file text lastCodes numbers ends depths
+        → r ≡ intervalCount (dictionaryOf file) text from to
 
   -- the same, and the work buffer keeps its size
   pub record PieceCounted (from to : ℕ) (work : List ℕ) (r : ℕ) (work' : List ℕ) : Type 0 where

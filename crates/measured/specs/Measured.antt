@@ -57,4 +57,6 @@ module _ (file places : List ℕ) (n : ℕ) (area codes : List ℕ) where
 
   -- entry i says whether code i of the one list passes with code i of the other
   abbrev pub Pairs : List ℕ → List ℕ → List ℕ → List ℕ → List ℕ → Type 0
-  Pairs lefts rights others = Each (λ (i r : ℕ). PairNumber (pairTables file places lefts rights area) n (getD codes i 0) (getD others i 0) r) (length codes)
+  Pairs lefts rights others =
+      Each (λ (i r : ℕ). PairNumber (pairTables file places lefts rights area) n (getD codes i 0) (getD others i 0) r)
+      (length codes)

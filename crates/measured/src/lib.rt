@@ -1,4 +1,5 @@
-// Core calls in a loop, exported for the benchmark alone: a public call checks the tables, which takes far longer than one of them.
+// Core calls in a loop, exported for the benchmark alone: a public call checks the tables, which takes far longer
+// than one of them.
 ghost use mathlib.Core.Path.{_≡_};
 ghost use Prim.Native.Nat.{_≤_, _<_};
 ghost use lib.ListN.{length};
@@ -19,7 +20,8 @@ use placed_rows::wide;
 fn find_row(file: &[u8], places: &[u32], n: usize, area: &[u32], x: u32) -> u32
     requires { ⌜ Placed (now file) (now places) n ⌝ }
     requires { ⌜ (areaSize ≤ length (now area)) × (x < n) ⌝ }
-    ensures { λ r. ⌜ Found (now (file .entry)) (now (places .entry)) n (now (area .entry)) (row (now (file .entry)) (now (places .entry)) n x) r ⌝ }
+    ensures { λ r. ⌜ Found (now (file .entry)) (now (places .entry)) n (now (area .entry))
+        (row (now (file .entry)) (now (places .entry)) n x) r ⌝ }
 {
     let bytes = placed_rows::bytes_of(file, places, n, wide(x));
     search_area::find(file, places, n, area, bytes)
@@ -57,7 +59,8 @@ pub extern "C" fn measured_finds(
     out: &mut [u32],
 )
     requires { ⌜ LookupReady (now file) (now places) n (now area) (now codes) (now out) ⌝ }
-    ensures { λ r. ⌜ Finds (now (file .entry)) (now (places .entry)) n (now (area .entry)) (now (codes .entry)) (now (out .entry)) (now (out .exit)) ⌝ }
+    ensures { λ r. ⌜ Finds (now (file .entry)) (now (places .entry)) n (now (area .entry)) (now (codes .entry))
+        (now (out .entry)) (now (out .exit)) ⌝ }
 {
     let mut i = 0;
     while i < codes.len() {
@@ -78,7 +81,8 @@ pub extern "C" fn measured_joins(
     out: &mut [u32],
 )
     requires { ⌜ JoinReady (now file) (now places) n (now area) (now codes) (now others) (now out) ⌝ }
-    ensures { λ r. ⌜ Joins (now (file .entry)) (now (places .entry)) n (now (area .entry)) (now (codes .entry)) (now (others .entry)) (now (out .entry)) (now (out .exit)) ⌝ }
+    ensures { λ r. ⌜ Joins (now (file .entry)) (now (places .entry)) n (now (area .entry)) (now (codes .entry))
+        (now (others .entry)) (now (out .entry)) (now (out .exit)) ⌝ }
 {
     let mut i = 0;
     while i < codes.len() {
@@ -101,7 +105,8 @@ pub extern "C" fn measured_pairs(
     out: &mut [u32],
 )
     requires { ⌜ PairsReady (pairGiven file places lefts rights area) n (now codes) (now others) (now out) ⌝ }
-    ensures { λ r. ⌜ Pairs (now (file .entry)) (now (places .entry)) n (now (area .entry)) (now (codes .entry)) (now (lefts .entry)) (now (rights .entry)) (now (others .entry)) (now (out .entry)) (now (out .exit)) ⌝ }
+    ensures { λ r. ⌜ Pairs (now (file .entry)) (now (places .entry)) n (now (area .entry)) (now (codes .entry))
+        (now (lefts .entry)) (now (rights .entry)) (now (others .entry)) (now (out .entry)) (now (out .exit)) ⌝ }
 {
     let mut i = 0;
     while i < codes.len() {
@@ -122,7 +127,8 @@ pub extern "C" fn measured_minimal(
     work: &mut [u32],
 ) -> usize
     requires { ⌜ MinimalReady (now file) (now places) (now area) n (now text) (now out) (now work) ⌝ }
-    ensures { λ r. ⌜ MinimalIs (now (file .entry)) (now (places .entry)) (now (area .entry)) n (now (text .entry)) (now (out .entry)) (now (out .exit)) (now (work .entry)) (now (work .exit)) r ⌝ }
+    ensures { λ r. ⌜ MinimalIs (now (file .entry)) (now (places .entry)) (now (area .entry)) n (now (text .entry))
+        (now (out .entry)) (now (out .exit)) (now (work .entry)) (now (work .exit)) r ⌝ }
 {
     shortest_encoder::encode_minimal_core(file, places, area, n, text, out, work)
 }
@@ -138,7 +144,8 @@ pub extern "C" fn measured_greedy(
     out: &mut [u32],
 ) -> usize
     requires { ⌜ GreedyReady (now file) (now places) (now area) n (now text) (now out) ⌝ }
-    ensures { λ r. ⌜ GreedyIs (now (file .entry)) (now (places .entry)) (now (area .entry)) n (now (text .entry)) (now (out .entry)) (now (out .exit)) r ⌝ }
+    ensures { λ r. ⌜ GreedyIs (now (file .entry)) (now (places .entry)) (now (area .entry)) n (now (text .entry))
+        (now (out .entry)) (now (out .exit)) r ⌝ }
 {
     shortest_encoder::encode_greedy_core(file, places, area, n, text, out)
 }

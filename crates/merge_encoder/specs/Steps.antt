@@ -22,7 +22,9 @@ pub record ByteCode (file places area : List ℕ) (n b r : ℕ) : Type 0 where
 
 -- the rows of the bytes met so far, none for the others
 abbrev pub KnownBytes : List ℕ → List ℕ → List ℕ → ℕ → List ℕ → Type 0
-KnownBytes file places area n known = (length known ≡ 256) × ((b : ℕ) → b < 256 → (getD known b 0 ≡ none) ⊎ ByteCode file places area n b (getD known b 0))
+KnownBytes file places area n known =
+    (length known ≡ 256)
+    × ((b : ℕ) → b < 256 → (getD known b 0 ≡ none) ⊎ ByteCode file places area n b (getD known b 0))
 
 pub record KnownCode (file places area : List ℕ) (n b : ℕ) (known' : List ℕ) (r : ℕ) : Type 0 where
   pub code : ByteCode file places area n b r
@@ -33,7 +35,8 @@ pub record ByteCodes (file places area : List ℕ) (n : ℕ) (text work work' : 
   pub codes : Codes (length text) work' n
   pub work-length : length work' ≡ length work
   pub beyond : drop (length text) work' ≡ drop (length text) work
-  pub built : (lefts rights : List ℕ) → WhenBuilt (pairTables file places lefts rights area) n (λ D. take (length text) work' ≡ byteCodes D text)
+  pub built : (lefts rights : List ℕ)
+      → WhenBuilt (pairTables file places lefts rights area) n (λ D. take (length text) work' ≡ byteCodes D text)
 
 -- k is the row of D that has x and y as its parts, or none where there is no such row
 pub record JoinOf (D : Dictionary) (n x y k : ℕ) : Type 0 where
@@ -73,7 +76,8 @@ pub record RenewReady (P : PairTables) (n len : ℕ) (work keys heads pool : Lis
   pub next-below : next ≤ len
 
 -- one key is found anew, and its place is in the queue of its row
-pub record Renewed (P : PairTables) (n len : ℕ) (work keys heads pool : List ℕ) (count at next : ℕ) (keys' heads' pool' : List ℕ) (r : ℕ) : Type 0 where
+pub record Renewed (P : PairTables) (n len : ℕ) (work keys heads pool : List ℕ) (count at next : ℕ)
+    (keys' heads' pool' : List ℕ) (r : ℕ) : Type 0 where
   pub keys-room : length keys' ≡ 4096
   pub last : next ≡ len → getD keys' at 0 ≡ none
   pub here : next < len → JoinKey P n (getD work at 0) (getD work next 0) (getD keys' at 0)
@@ -87,7 +91,8 @@ pub record Keyed (P : PairTables) (n len : ℕ) (words work keys : List ℕ) : T
   pub codes-ready : CodesReady n len work
   pub keys-room : length keys ≡ 4096
   pub key : (i : ℕ) → i < 4096
-      → KeyIs (JoinKey P n) (isSet words i) (getD work i 0) (live (isSet words) work (len - suc i) (suc i)) (getD keys i 0)
+      → KeyIs (JoinKey P n) (isSet words i) (getD work i 0) (live (isSet words) work (len - suc i) (suc i))
+      (getD keys i 0)
 
 -- and the queues, with room for two entries at each join
 pub record State (P : PairTables) (n len : ℕ) (words work keys heads pool : List ℕ) (count : ℕ) : Type 0 where
@@ -133,7 +138,8 @@ pub record Around (bits : ℕ → Bool) (keys : List ℕ) (n len row last at nex
   pub after-is : NextLive bits next len after
 
 -- the code at the place at and the one after it are made one
-pub record Turned (P : PairTables) (n len : ℕ) (words work keys heads pool : List ℕ) (count row last at next : ℕ) (words' work' keys' heads' pool' : List ℕ) (r : ℕ) : Type 0 where
+pub record Turned (P : PairTables) (n len : ℕ) (words work keys heads pool : List ℕ) (count row last at next : ℕ)
+    (words' work' keys' heads' pool' : List ℕ) (r : ℕ) : Type 0 where
   pub state : State P n len words' work' keys' heads' pool' r
   pub work-length : length work' ≡ length work
   pub beyond : drop len work' ≡ drop len work
@@ -146,7 +152,8 @@ pub record Turned (P : PairTables) (n len : ℕ) (words work keys heads pool : L
   pub fresh-last : last < at → (getD keys' last 0 ≡ none → ⊥) → Queued pool' (getD heads' (getD keys' last 0) 0) last
   pub higher-at : WhenBuilt P n (λ D. row < getD keys' at 0)
   pub higher-last : last < at → WhenBuilt P n (λ D. row < getD keys' last 0)
-  pub same : WhenBuilt P n (λ D. pass row (listed D row) (live (isSet words') work' len 0) ≡ pass row (listed D row) (live (isSet words) work len 0))
+  pub same : WhenBuilt P n (λ D. pass row (listed D row) (live (isSet words') work' len 0)
+      ≡ pass row (listed D row) (live (isSet words) work len 0))
 
 -- the live place before a place has the key row
 pub record Behind (bits : ℕ → Bool) (keys : List ℕ) (row i : ℕ) : Type 0 where
@@ -155,36 +162,43 @@ pub record Behind (bits : ℕ → Bool) (keys : List ℕ) (row i : ℕ) : Type 0
   pub clear : (p : ℕ) → place < p → p < i → bits p ≡ false
   pub key : getD keys place 0 ≡ row
 
--- while the joins to row are made: no key is below row, places with a higher one are queued, and a place with the key row is the place at,
--- or in the queue from an entry on, or the live place before it has the key row too
+-- while the joins to row are made: no key is below row, places with a higher one are queued, and a place with the key
+-- row is the place at, or in the queue from an entry on, or the live place before it has the key row too
 pub record During (bits : ℕ → Bool) (keys heads pool : List ℕ) (row entry at : ℕ) : Type 0 where
   pub least : (i : ℕ) → i < 4096 → row ≤ getD keys i 0
-  pub queued : (i : ℕ) → i < 4096 → row < getD keys i 0 → (getD keys i 0 ≡ none → ⊥) → Queued pool (getD heads (getD keys i 0) 0) i
+  pub queued : (i : ℕ) → i < 4096 → row < getD keys i 0 → (getD keys i 0 ≡ none → ⊥)
+      → Queued pool (getD heads (getD keys i 0) 0) i
   pub due : (i : ℕ) → i < 4096 → getD keys i 0 ≡ row → (i ≡ at) ⊎ (Queued pool entry i ⊎ Behind bits keys row i)
 
 -- joins to row were made from the place at on, where there are some. 4,096 is no place
-pub record Ran (P : PairTables) (n len : ℕ) (words work keys heads pool : List ℕ) (count row at : ℕ) (words' work' keys' heads' pool' : List ℕ) (r : ℕ) : Type 0 where
+pub record Ran (P : PairTables) (n len : ℕ) (words work keys heads pool : List ℕ) (count row at : ℕ)
+    (words' work' keys' heads' pool' : List ℕ) (r : ℕ) : Type 0 where
   pub state : State P n len words' work' keys' heads' pool' r
   pub work-length : length work' ≡ length work
   pub beyond : drop len work' ≡ drop len work
   pub least : count ≤ r
-  pub during : WhenBuilt P n (λ D. (entry : ℕ) → entry < count → During (isSet words) keys heads pool row entry at → During (isSet words') keys' heads' pool' row entry 4096)
-  pub same : WhenBuilt P n (λ D. pass row (listed D row) (live (isSet words') work' len 0) ≡ pass row (listed D row) (live (isSet words) work len 0))
+  pub during : WhenBuilt P n (λ D. (entry : ℕ) → entry < count → During (isSet words) keys heads pool row entry at →
+      During (isSet words') keys' heads' pool' row entry 4096)
+  pub same : WhenBuilt P n (λ D. pass row (listed D row) (live (isSet words') work' len 0)
+      ≡ pass row (listed D row) (live (isSet words) work len 0))
 
 -- all joins to row were made
-pub record RowJoined (P : PairTables) (n len : ℕ) (words work keys heads pool : List ℕ) (row : ℕ) (words' work' keys' heads' pool' : List ℕ) (r : ℕ) : Type 0 where
+pub record RowJoined (P : PairTables) (n len : ℕ) (words work keys heads pool : List ℕ) (row : ℕ)
+    (words' work' keys' heads' pool' : List ℕ) (r : ℕ) : Type 0 where
   pub state : State P n len words' work' keys' heads' pool' r
   pub work-length : length work' ≡ length work
   pub beyond : drop len work' ≡ drop len work
   pub waiting : WhenBuilt P n (λ D. Waiting keys heads pool row → Waiting keys' heads' pool' (suc row))
-  pub is : WhenBuilt P n (λ D. Waiting keys heads pool row → live (isSet words') work' len 0 ≡ pass row (listed D row) (live (isSet words) work len 0))
+  pub is : WhenBuilt P n (λ D. Waiting keys heads pool row → live (isSet words') work' len 0
+      ≡ pass row (listed D row) (live (isSet words) work len 0))
 
 -- the codes after the passes of the rows below p
 abbrev pub passedBelow : Dictionary → ℕ → List ℕ → List ℕ
 passedBelow D zero S = S
 passedBelow D (suc p) S = pass p (listed D p) (passedBelow D p S)
 
--- the codes at the live places are what the passes of all rows make of those that were there before, the numbers from len on as before
+-- the codes at the live places are what the passes of all rows make of those that were there before, the numbers from
+-- len on as before
 pub record Merged (P : PairTables) (n len : ℕ) (words work words' work' : List ℕ) : Type 0 where
   pub codes : Codes len work' n
   pub work-length : length work' ≡ length work

@@ -1,7 +1,8 @@
-// The merge procedure over tables: each byte alone at first, then for each row, in their order, the neighbours that are the row's parts are
-// joined, from left to right. A code stands in `work` at the place where its bytes begin. The live places are the set bits of 65 words. The key
-// of a live place is the row that has its code and the next one as its parts, or NONE. Each row has a queue of the places whose key it is or was:
-// `heads` has the newest entry of each queue, and an entry of `pool` is the next older entry times 4,096, and a place. Entry 0 ends a queue.
+// The merge procedure over tables: each byte alone at first, then for each row, in their order, the neighbours that
+// are the row's parts are joined, from left to right. A code stands in `work` at the place where its bytes begin. The
+// live places are the set bits of 65 words. The key of a live place is the row that has its code and the next one as
+// its parts, or NONE. Each row has a queue of the places whose key it is or was: `heads` has the newest entry of each
+// queue, and an entry of `pool` is the next older entry times 4,096, and a place. Entry 0 ends a queue.
 ghost use mathlib.Core.Path.{_≡_};
 ghost use Prim.Native.Nat.{_≤_, _<_};
 ghost use lib.ListN.{length, getD};
@@ -24,7 +25,8 @@ use placed_rows::wide;
 fn byte_code(file: &[u8], places: &[u32], area: &[u32], n: usize, text: &[u8], at: usize) -> u32
     requires { ⌜ RowsReady (now file) (now places) (now area) n ⌝ }
     requires { ⌜ at < length (now text) ⌝ }
-    ensures { λ r. ⌜ ByteCode (now (file .entry)) (now (places .entry)) (now (area .entry)) n (getD (now (text .entry)) at 0) r ⌝ }
+    ensures { λ r. ⌜ ByteCode (now (file .entry)) (now (places .entry)) (now (area .entry)) n
+        (getD (now (text .entry)) at 0) r ⌝ }
 {
     let end = at + 1;
     let code = search_area::find(file, places, n, area, &text[at..end]);
@@ -46,7 +48,8 @@ fn known_code(
 ) -> u32
     requires { ⌜ RowsReady (now file) (now places) (now area) n ⌝ }
     requires { ⌜ (at < length (now text)) × KnownBytes (now file) (now places) (now area) n (now known) ⌝ }
-    ensures { λ r. ⌜ KnownCode (now (file .entry)) (now (places .entry)) (now (area .entry)) n (getD (now (text .entry)) at 0) (now (known .exit)) r ⌝ }
+    ensures { λ r. ⌜ KnownCode (now (file .entry)) (now (places .entry)) (now (area .entry)) n
+        (getD (now (text .entry)) at 0) (now (known .exit)) r ⌝ }
 {
     let byte = text[at] as usize;
     let met = known[byte];
@@ -69,7 +72,8 @@ fn fill_byte_codes(
 )
     requires { ⌜ RowsReady (now file) (now places) (now area) n ⌝ }
     requires { ⌜ length (now text) ≤ length (now work) ⌝ }
-    ensures { λ r. ⌜ ByteCodes (now (file .entry)) (now (places .entry)) (now (area .entry)) n (now (text .entry)) (now (work .entry)) (now (work .exit)) ⌝ }
+    ensures { λ r. ⌜ ByteCodes (now (file .entry)) (now (places .entry)) (now (area .entry)) n (now (text .entry))
+        (now (work .entry)) (now (work .exit)) ⌝ }
 {
     let mut known = [NONE; 256];
     let mut i = 0;
@@ -107,7 +111,8 @@ fn last_live(words: &[u64; 65], at: usize) -> usize
     at
 }
 
-// A row, or NONE, is made the key of a place, and the place is put at the front of the row's queue. The count of entries is answered.
+// A row, or NONE, is made the key of a place, and the place is put at the front of the row's queue. The count of
+// entries is answered.
 fn push(
     keys: &mut [u32; 4096],
     heads: &mut [u32; 4096],
@@ -117,7 +122,8 @@ fn push(
     row: u32,
 ) -> usize
     requires { ⌜ PushReady (now keys) (now heads) (now pool) count place row ⌝ }
-    ensures { λ r. ⌜ Pushed (now (keys .entry)) (now (heads .entry)) (now (pool .entry)) count place row (now (keys .exit)) (now (heads .exit)) (now (pool .exit)) r ⌝ }
+    ensures { λ r. ⌜ Pushed (now (keys .entry)) (now (heads .entry)) (now (pool .entry)) count place row
+        (now (keys .exit)) (now (heads .exit)) (now (pool .exit)) r ⌝ }
 {
     keys[place] = row;
     if row == NONE {

@@ -1,4 +1,5 @@
-// The bytes of a row as the page shows them: valid UTF-8 as it is, but for control characters and numbers that are no characters.
+// The bytes of a row as the page shows them: valid UTF-8 as it is, but for control characters and numbers that are no
+// characters.
 use words::back;
 use words::put;
 use words::put_all;

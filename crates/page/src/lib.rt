@@ -1,4 +1,5 @@
-// The page of `phrases show`: a text cut into its codes, in bursts of 40. No script, no link; docs/page.md has it byte for byte.
+// The page of `phrases show`: a text cut into its codes, in bursts of 40. No script, no link; docs/page.md has it
+// byte for byte.
 mod boxes;
 mod characters;
 mod head;
@@ -25,8 +26,8 @@ fn put_totals(out: &mut [u8], at: usize, size: usize, count: usize) -> usize {
     put_all(out, end, b"</ul>\n")
 }
 
-// Writes the page of a text of `size` bytes to the front of a buffer, as far as there is room, and gives its length. No page of a text of 4,096
-// bytes has more than 400,000.
+// Writes the page of a text of `size` bytes to the front of a buffer, as far as there is room, and gives its length.
+// No page of a text of 4,096 bytes has more than 400,000.
 pub fn put_page(out: &mut [u8], size: usize, file: &[u8], places: &[u32], codes: &[u32]) -> usize {
     let mut end = head::put_head(out, 0);
     end = put_totals(out, end, size, codes.len());

@@ -28,7 +28,8 @@ isSome (some p) = true
 unfoldable pub hasParts : List (List ℕ) → ℕ → Bool
 hasParts rows w = isSome (getD (partsBelow rows (length rows)) w Option.none)
 
--- cause 6: the lowest row without parts, n where all have parts. It is a longer row, since a one-byte row has itself twice
+-- cause 6: the lowest row without parts, n where all have parts. It is a longer row, since a one-byte row has itself
+-- twice
 unfoldable pub firstWithout : List (List ℕ) → ℕ
 firstWithout rows = firstNot (length rows) (hasParts rows) 0
 
@@ -107,7 +108,8 @@ pub record PartsFit (file places lefts rights prefixes area : List ℕ) (n : ℕ
   pub left-room : n ≤ length lefts
   pub right-room : n ≤ length rights
 
--- r is the lowest row without parts, and the tables have the parts of the rows below it; their entries from n on are as before
+-- r is the lowest row without parts, and the tables have the parts of the rows below it; their entries from n on are
+-- as before
 pub record PartsFilled (file lefts rights area lefts' rights' area' : List ℕ) (n r : ℕ) : Type 0 where
   pub answer : r ≡ firstWithout (rows file)
   pub known : PartsKnown file lefts' rights' area' r

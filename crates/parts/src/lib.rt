@@ -49,7 +49,8 @@ fn right_part(
     NONE
 }
 
-// The parts of row w: a one-byte row has itself twice; for a longer one the rows that begin it are tried, longest first.
+// The parts of row w: a one-byte row has itself twice; for a longer one the rows that begin it are tried, longest
+// first.
 fn find_parts(
     file: &[u8],
     places: &[u32],
@@ -124,7 +125,8 @@ fn name_row(area: &mut [u32], w: usize, left: u32, right: u32)
     area[at] = with_row(area[at], place % 2, w);
 }
 
-// Writes the parts of row w into the tables; where the row is a longer one, it is named for the two, and they are marked.
+// Writes the parts of row w into the tables; where the row is a longer one, it is named for the two, and they are
+// marked.
 fn write_parts(
     lefts: &mut [u32],
     rights: &mut [u32],
@@ -134,7 +136,8 @@ fn write_parts(
     right: u32,
 )
     requires { ⌜ WriteFit (now lefts) (now rights) (now area) w ⌝ }
-    ensures { λ _. ⌜ PartsWritten (now (lefts .entry)) (now (rights .entry)) (now (area .entry)) w left right (now (lefts .exit)) (now (rights .exit)) (now (area .exit)) ⌝ }
+    ensures { λ _. ⌜ PartsWritten (now (lefts .entry)) (now (rights .entry)) (now (area .entry)) w left right
+        (now (lefts .exit)) (now (rights .exit)) (now (area .exit)) ⌝ }
 {
     lefts[w] = left;
     rights[w] = right;
@@ -163,8 +166,8 @@ fn mark_seam(file: &[u8], places: &[u32], n: usize, area: &mut [u32], w: usize, 
     );
 }
 
-// Writes the parts of the rows into the tables, marks the pairs and the seams of the longer ones in the search area, and says which
-// row is the lowest without parts, n where all have parts.
+// Writes the parts of the rows into the tables, marks the pairs and the seams of the longer ones in the search area,
+// and says which row is the lowest without parts, n where all have parts.
 pub fn fill_parts(
     file: &[u8],
     places: &[u32],
@@ -175,7 +178,8 @@ pub fn fill_parts(
     n: usize,
 ) -> usize
     requires { ⌜ PartsFit (now file) (now places) (now lefts) (now rights) (now prefixes) (now area) n ⌝ }
-    ensures { λ r. ⌜ PartsFilled (now (file .entry)) (now (lefts .entry)) (now (rights .entry)) (now (area .entry)) (now (lefts .exit)) (now (rights .exit)) (now (area .exit)) n r ⌝ }
+    ensures { λ r. ⌜ PartsFilled (now (file .entry)) (now (lefts .entry)) (now (rights .entry)) (now (area .entry))
+        (now (lefts .exit)) (now (rights .exit)) (now (area .exit)) n r ⌝ }
 {
     empty_pairs(area);
     let mut w = 0;

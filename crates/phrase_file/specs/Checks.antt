@@ -30,8 +30,8 @@ firstNot (suc k) test b = elim (test b) [ true ↦ firstNot k test (suc b) | fal
 unfoldable pub missingByte : List ℕ → ℕ
 missingByte file = firstNot 256 (hasByte (rows file)) 0
 
--- the conditions 2, 3 and 4: a file over 65,536 bytes, or a bad mark, length or cut record; n under 256 or over 4,096; a
--- byte value without a row
+-- the conditions 2, 3 and 4: a file over 65,536 bytes, or a bad mark, length or cut record; n under 256 or over
+-- 4,096; a byte value without a row
 abbrev pub fileConditions : List ℕ → List Condition
 fileConditions file =
     when (ltb 65536 (length file)) (BadRecord 65536)

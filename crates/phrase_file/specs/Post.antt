@@ -7,7 +7,8 @@ use lib.ListN.{length, getD}
 use Rattle.phrase_file.specs.Form.{places, rows, recordsEnd}
 use Rattle.phrase_file.specs.Checks.{hasByte}
 
--- what one pass over a file finds: the count of rows, where the records end, and of each byte value whether it has a row
+-- what one pass over a file finds: the count of rows, where the records end, and of each byte value whether it has a
+-- row
 pub record Scanned (file : List ℕ) (n end : ℕ) (seen : List Bool) : Type 0 where
   pub count : n ≡ length (rows file)
   pub ends : end ≡ recordsEnd file

@@ -116,7 +116,8 @@ pub fn row_offset(file: &[u8], row: usize) -> usize
 // Writes the places of the rows to the front of a table.
 pub fn fill_places(file: &[u8], table: &mut [u32])
     requires { ⌜ PlacesFit (now file) (now table) ⌝ }
-    ensures { λ r. ⌜ now (table .exit) ≡ places (now (file .entry)) ++ drop (length (places (now (file .entry)))) (now (table .entry)) ⌝ }
+    ensures { λ r. ⌜ now (table .exit) ≡ places (now (file .entry)) ++ drop (length (places (now (file .entry))))
+        (now (table .entry)) ⌝ }
 {
     let mut at: usize = 0;
     let mut row: usize = 0;

@@ -1,4 +1,5 @@
-// The commands of the program `phrases`. Each prints its answer to standard output; the last line begins with `result:`.
+// The commands of the program `phrases`. Each prints its answer to standard output; the last line begins with
+// `result:`.
 mod usage;
 
 use file_commands::Loaded;
@@ -97,7 +98,8 @@ fn run_decode(
     }
 }
 
-// The commands over a text to send, which stands at the front of a buffer: `encode`, `count`, `shortest`, and `show` with the name of the page.
+// The commands over a text to send, which stands at the front of a buffer: `encode`, `count`, `shortest`, and `show`
+// with the name of the page.
 fn send_buffer(
     command: &[u8],
     out: &[u8],
@@ -336,8 +338,8 @@ fn run_making(command: &[u8], line: &[u8], given: usize) -> bool {
     false
 }
 
-// Runs a command line: the command and its arguments, each word ended by a byte 0. `input` is the descriptor of standard input; `each` says
-// whether `type` shows the count after each byte.
+// Runs a command line: the command and its arguments, each word ended by a byte 0. `input` is the descriptor of
+// standard input; `each` says whether `type` shows the count after each byte.
 pub fn run(line: &[u8], input: i32, each: bool) {
     let count = word_count(line);
     if count == 0 {

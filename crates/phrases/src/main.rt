@@ -1,4 +1,5 @@
-// The program `phrases`: its arguments as a command line for the library `phrase_tool`. docs/phrases.md says what the commands are.
+// The program `phrases`: its arguments as a command line for the library `phrase_tool`. docs/phrases.md says what the
+// commands are.
 use words::front;
 use words::put;
 use words::put_all;

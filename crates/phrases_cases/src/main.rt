@@ -1,5 +1,5 @@
-// Works through command lines of `phrases`, one on each line of standard input, over the same library function as the program. README.md says
-// what a line may hold.
+// Works through command lines of `phrases`, one on each line of standard input, over the same library function as the
+// program. README.md says what a line may hold.
 use words::Parsed;
 use words::after;
 use words::back;

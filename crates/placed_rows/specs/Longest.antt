@@ -1,5 +1,5 @@
--- The longest row that begins a text, and the prefix of a row. Rows are a function R from numbers to bytes, with no bytes at none; K says which
--- numbers are rows. Assumes nothing.
+-- The longest row that begins a text, and the prefix of a row. Rows are a function R from numbers to bytes, with no
+-- bytes at none; K says which numbers are rows. Assumes nothing.
 use mathlib.Core.Path.{_≡_}
 use mathlib.Core.List.{List}
 use mathlib.Core.Logic.{_⊎_}
@@ -22,7 +22,8 @@ pub record Longest (R : ℕ → List ℕ) (K : ℕ → Type 0) (t : List ℕ) (r
   pub begins : Begins (R r) t
   pub longest : (d : ℕ) → K d → Begins (R d) t → length (R d) ≤ length (R r)
 
--- "prefix" of row c, its next shorter prefix: q is the longest other row that begins it, else none; it is shorter, since rows differ
+-- "prefix" of row c, its next shorter prefix: q is the longest other row that begins it, else none; it is shorter,
+-- since rows differ
 pub record Prefix (R : ℕ → List ℕ) (K : ℕ → Type 0) (c q : ℕ) : Type 0 where
   pub known : Known K q
   pub begins : Begins (R q) (R c)

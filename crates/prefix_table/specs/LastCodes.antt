@@ -22,4 +22,5 @@ pub record PrefixesAre (P : PairTables) (n : ℕ) (text table table' : List ℕ)
   pub same-length : length table' ≡ length table
   pub beyond : drop (length text) table' ≡ drop (length text) table
   pub rows : RowsTo n table' (length text)
-  pub built : (prefixes : List ℕ) → Built (withPrefixes P prefixes) n → table' ≡ lastCodes (dictionaryOf (P .file)) text ++ drop (length text) table
+  pub built : (prefixes : List ℕ) → Built (withPrefixes P prefixes) n
+      → table' ≡ lastCodes (dictionaryOf (P .file)) text ++ drop (length text) table

@@ -31,8 +31,8 @@ pub record TableReady (P : PairTables) (n : ℕ) (text out work : List ℕ) : Ty
   pub out-room : length text ≤ length out
   pub work-room : length text ≤ length work
 
--- `encode_via_table`: r codes at the front of the output, those of the merge procedure; the rest of it as before. What is left in the first
--- entries of the work buffer is free
+-- `encode_via_table`: r codes at the front of the output, those of the merge procedure; the rest of it as before.
+-- What is left in the first entries of the work buffer is free
 pub record TableCodes (P : PairTables) (n : ℕ) (text out work out' work' : List ℕ) (r : ℕ) : Type 0 where
   pub few : r ≤ length text
   pub rows : RowsTo n out' r
@@ -41,4 +41,5 @@ pub record TableCodes (P : PairTables) (n : ℕ) (text out work out' work' : Lis
   pub work-length : length work' ≡ length work
   pub work-beyond : drop (length text) work' ≡ drop (length text) work
   pub built : (prefixes : List ℕ) → Built (withPrefixes P prefixes) n
-      → (r ≡ length (encode (dictionaryOf (P .file)) text)) × (out' ≡ encode (dictionaryOf (P .file)) text ++ drop r out)
+      → (r ≡ length (encode (dictionaryOf (P .file)) text))
+      × (out' ≡ encode (dictionaryOf (P .file)) text ++ drop r out)

@@ -88,7 +88,8 @@ fn write_back(
     out: &mut [u32],
 )
     requires { ⌜ WriteReady (now file) (now places) n (now table) m count (now out) ⌝ }
-    ensures { λ r. ⌜ now (out .exit) ≡ walked (now (file .entry)) (now (table .entry)) m ++ drop count (now (out .entry)) ⌝ }
+    ensures { λ r. ⌜ now (out .exit) ≡ walked (now (file .entry)) (now (table .entry)) m ++ drop count
+        (now (out .entry)) ⌝ }
 {
     let mut at = count;
     let mut pos = m;

@@ -1,6 +1,6 @@
-// Works through the list of commands on standard input: phrase files, builds, encoders, counters, decoding. Each command
-// that calls the library prints its answer, and whether the lent buffers hold what document 01 says beside it. README.md
-// lists the commands, and says where the list and what must be printed for it come from.
+// Works through the list of commands on standard input: phrase files, builds, encoders, counters, decoding. Each
+// command that calls the library prints its answer, and whether the lent buffers hold what document 01 says beside
+// it. README.md lists the commands, and says where the list and what must be printed for it come from.
 mod building;
 mod sending;
 

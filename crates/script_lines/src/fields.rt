@@ -113,7 +113,8 @@ fn first_byte(line: &[u8]) -> u8 {
     (digit(line[2]) % 16 * 16 + digit(line[3]) % 16) as u8
 }
 
-// Writes the escaped bytes of a line from a place of the output on, as far as there is room, and gives the place behind them.
+// Writes the escaped bytes of a line from a place of the output on, as far as there is room, and gives the place
+// behind them.
 pub fn unescape(line: &[u8], out: &mut [u8], from: usize) -> usize {
     let mut end = from;
     let mut at = 0;

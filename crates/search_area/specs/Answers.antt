@@ -1,4 +1,5 @@
--- What the lookups answer: on any contents of the search area a bounded answer, and the true one where it finds every row. Assumes nothing.
+-- What the lookups answer: on any contents of the search area a bounded answer, and the true one where it finds every
+-- row. Assumes nothing.
 use mathlib.Core.Path.{_≡_}
 use mathlib.Core.List.{List, _++_}
 use mathlib.Core.Logic.{_⊎_}
@@ -13,7 +14,8 @@ use Rattle.search_area.specs.Area.{Finds}
 pub record NextMatch (file places : List ℕ) (n : ℕ) (area t : List ℕ) (r l : ℕ) : Type 0 where
   pub bound : ((r ≡ none) × (l ≡ 0)) ⊎ ((r < n) × (0 < l))
   pub room : l ≤ length t
-  pub longest : Finds file places n area → Longest (row file places n) (Below n) t r × (l ≡ length (row file places n r))
+  pub longest : Finds file places n area
+      → Longest (row file places n) (Below n) t r × (l ≡ length (row file places n r))
 
 -- p is a row that begins t, or none, and len its length
 pub record Reached (R : ℕ → List ℕ) (n : ℕ) (t : List ℕ) (p len : ℕ) : Type 0 where

@@ -1,4 +1,5 @@
--- The search area, of 16,384 numbers: its first 12,544 list the rows; the others are hints and marks of seams and pairs (crate token_pair). Assumes nothing.
+-- The search area, of 16,384 numbers: its first 12,544 list the rows; the others are hints and marks of seams and
+-- pairs (crate token_pair). Assumes nothing.
 use mathlib.Core.Path.{_≡_}
 use mathlib.Core.List.{List, [], _∷_}
 use mathlib.Core.Bool.{Bool}
@@ -27,6 +28,7 @@ pub record Whole (R : ℕ → List ℕ) (n : ℕ) : Type 0 where
   pub byte-is : (b : ℕ) → b < 256 → R (byte b) ≡ b ∷ []
   pub short : (c : ℕ) → c < n → length (R c) ≤ 64
 
--- the search area finds every row, and the rows are whole; it is this that build leaves and that the lookups need, and nothing above sees more of the arrangement
+-- the search area finds every row, and the rows are whole; it is this that build leaves and that the lookups need,
+-- and nothing above sees more of the arrangement
 unfoldable pub Finds : List ℕ → List ℕ → ℕ → List ℕ → Type 0
 Finds file places n area = Holds file places n area (allRows n) × Whole (row file places n) n

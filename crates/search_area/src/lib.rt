@@ -1,4 +1,5 @@
-// Lookups in the search area. They are safe and end on any contents of the area; they are right where the area finds every row.
+// Lookups in the search area. They are safe and end on any contents of the area; they are right where the area finds
+// every row.
 ghost use mathlib.Core.Path.{_≡_};
 ghost use Prim.Native.Nat.{ℕ, _+_, _<_, _≤_};
 ghost use lib.ListN.{length, drop};
@@ -19,7 +20,8 @@ pub fn next_match(
 ) -> Match
     requires { ⌜ Placed (now file) (now places) n ⌝ }
     requires { ⌜ (areaSize ≤ length (now area)) × (at ≤ length (now text)) ⌝ }
-    ensures { λ r. ⌜ NextMatch (now (file .entry)) (now (places .entry)) n (now (area .entry)) (drop at (now (text .entry))) (r .row) (r .len) ⌝ }
+    ensures { λ r. ⌜ NextMatch (now (file .entry)) (now (places .entry)) n (now (area .entry))
+        (drop at (now (text .entry))) (r .row) (r .len) ⌝ }
 {
     forest::longest(file, places, n, area, text, at)
 }
@@ -35,7 +37,8 @@ pub fn first_match(
 ) -> Match
     requires { ⌜ Placed (now file) (now places) n ⌝ }
     requires { ⌜ (areaSize ≤ length (now area)) × (at ≤ length (now text)) ⌝ }
-    ensures { λ r. ⌜ FirstMatch (now (file .entry)) (now (places .entry)) n (now (area .entry)) (drop at (now (text .entry))) (r .row) (r .len) ⌝ }
+    ensures { λ r. ⌜ FirstMatch (now (file .entry)) (now (places .entry)) n (now (area .entry))
+        (drop at (now (text .entry))) (r .row) (r .len) ⌝ }
 {
     if text.len() <= at {
         return Match { row: NONE, len: 0 };
@@ -46,7 +49,8 @@ pub fn first_match(
     }
 }
 
-// The shortest row that begins the text from at on and is longer than row, of len bytes, which begins it too, with its length, or NONE.
+// The shortest row that begins the text from at on and is longer than row, of len bytes, which begins it too, with
+// its length, or NONE.
 pub fn longer_match(
     file: &[u8],
     places: &[u32],
@@ -59,7 +63,8 @@ pub fn longer_match(
 ) -> Match
     requires { ⌜ Placed (now file) (now places) n ⌝ }
     requires { ⌜ (row < n) × ((areaSize ≤ length (now area)) × (at + len ≤ length (now text))) ⌝ }
-    ensures { λ r. ⌜ LongerMatch (now (file .entry)) (now (places .entry)) n (now (area .entry)) (drop at (now (text .entry))) row len (r .row) (r .len) ⌝ }
+    ensures { λ r. ⌜ LongerMatch (now (file .entry)) (now (places .entry)) n (now (area .entry))
+        (drop at (now (text .entry))) row len (r .row) (r .len) ⌝ }
 {
     forest::child(file, places, n, area, row, len, text, at + len)
 }

@@ -20,7 +20,8 @@ emptied area = cleared (frontHalf area) ++ drop hints area
 pub record RowIn (file places : List ℕ) (n : ℕ) (area : List ℕ) (c : ℕ) (area' : List ℕ) : Type 0 where
   pub area-length : length area' ≡ length area
   pub area-beyond : drop hints area' ≡ drop hints area
-  pub holds : (S : ℕ → Bool) → Holds file places n area S → Fresh (row file places n) n S c → Holds file places n area' (with-row S c)
+  pub holds : (S : ℕ → Bool) → Holds file places n area S → Fresh (row file places n) n S c
+      → Holds file places n area' (with-row S c)
 
 -- the rows that go in before time x, in the order of length and number: row d goes in at time 4096 * length + d
 abbrev pub before : (ℕ → List ℕ) → ℕ → ℕ → ℕ → Bool
@@ -30,7 +31,8 @@ before R n x d = ltb d n && ltb (length (R d) * 4096 + d) x
 pub record RowsIn (file places : List ℕ) (n : ℕ) (area : List ℕ) (x : ℕ) (area' : List ℕ) (y : ℕ) : Type 0 where
   pub area-length : length area' ≡ length area
   pub area-beyond : drop hints area' ≡ drop hints area
-  pub holds : Fillable (row file places n) n → Holds file places n area (before (row file places n) n x) → Holds file places n area' (before (row file places n) n y)
+  pub holds : Fillable (row file places n) n → Holds file places n area (before (row file places n) n x)
+      → Holds file places n area' (before (row file places n) n y)
 
 -- p is the prefix of row c
 pub record PrefixIs (file places : List ℕ) (n : ℕ) (area : List ℕ) (c p : ℕ) : Type 0 where

@@ -30,7 +30,8 @@ fn add_row(file: &[u8], places: &[u32], n: usize, area: &mut [u32], c: usize)
 fn add_length(file: &[u8], places: &[u32], n: usize, area: &mut [u32], len: usize)
     requires { ⌜ Placed (now file) (now places) n ⌝ }
     requires { ⌜ (areaSize ≤ length (now area)) × (len ≤ 64) ⌝ }
-    ensures { λ r. ⌜ RowsIn (now (file .entry)) (now (places .entry)) n (now (area .entry)) (len * 4096) (now (area .exit)) ((len + 1) * 4096) ⌝ }
+    ensures { λ r. ⌜ RowsIn (now (file .entry)) (now (places .entry)) n (now (area .entry)) (len * 4096)
+        (now (area .exit)) ((len + 1) * 4096) ⌝ }
 {
     let mut c = 0;
     while c < n {
@@ -74,7 +75,8 @@ fn prefix_of(file: &[u8], places: &[u32], n: usize, area: &[u32], c: usize) -> u
 fn fill_prefixes(file: &[u8], places: &[u32], n: usize, area: &[u32], prefixes: &mut [u32])
     requires { ⌜ Placed (now file) (now places) n ⌝ }
     requires { ⌜ (areaSize ≤ length (now area)) × (n ≤ length (now prefixes)) ⌝ }
-    ensures { λ r. ⌜ PrefixesFilled (now (file .entry)) (now (places .entry)) n (now (area .entry)) (now (prefixes .entry)) (now (prefixes .exit)) ⌝ }
+    ensures { λ r. ⌜ PrefixesFilled (now (file .entry)) (now (places .entry)) n (now (area .entry))
+        (now (prefixes .entry)) (now (prefixes .exit)) ⌝ }
 {
     let mut c = 0;
     while c < n {
@@ -87,7 +89,8 @@ fn fill_prefixes(file: &[u8], places: &[u32], n: usize, area: &[u32], prefixes: 
 pub fn fill(file: &[u8], places: &[u32], n: usize, prefixes: &mut [u32], area: &mut [u32])
     requires { ⌜ Placed (now file) (now places) n ⌝ }
     requires { ⌜ (n ≤ length (now prefixes)) × (areaSize ≤ length (now area)) ⌝ }
-    ensures { λ r. ⌜ Filled (now (file .entry)) (now (places .entry)) n (now (prefixes .entry)) (now (area .entry)) (now (prefixes .exit)) (now (area .exit)) ⌝ }
+    ensures { λ r. ⌜ Filled (now (file .entry)) (now (places .entry)) n (now (prefixes .entry)) (now (area .entry))
+        (now (prefixes .exit)) (now (area .exit)) ⌝ }
 {
     fill_area(file, places, n, area);
     fill_prefixes(file, places, n, area, prefixes);

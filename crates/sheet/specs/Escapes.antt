@@ -1,4 +1,5 @@
--- What a line of escaped bytes means: \xNN is the byte NN, \t a tab, \n a line end, \\ a backslash; any other byte is itself. Assumes nothing.
+-- What a line of escaped bytes means: \xNN is the byte NN, \t a tab, \n a line end, \\ a backslash; any other byte is
+-- itself. Assumes nothing.
 use mathlib.Core.Path.{_≡_}
 use mathlib.Core.List.{List, [], _∷_, _++_}
 use mathlib.Core.Bool.{cond}
@@ -23,7 +24,9 @@ valueOf b =
 
 -- the byte after a backslash: x, t, n or a backslash
 unfoldable pub backslashed : ℕ → Step
-backslashed b = cond (eqb b 120) (Goes High) (cond (eqb b 116) (Writes 9) (cond (eqb b 110) (Writes 10) (cond (eqb b 92) (Writes 92) Wrong)))
+backslashed b =
+    cond (eqb b 120) (Goes High) (cond (eqb b 116) (Writes 9)
+    (cond (eqb b 110) (Writes 10) (cond (eqb b 92) (Writes 92) Wrong)))
 
 -- the first digit after \x
 unfoldable pub firstDigit : Digit → Step

@@ -37,7 +37,8 @@ pub record MinimalIs (file places area : List ℕ) (n : ℕ) (text out out' work
   pub written : Written n text out out' r
   pub work-size : length work' ≡ length work
   pub work-beyond : drop (length text) work' ≡ drop (length text) work
-  pub built : (lefts rights prefixes : List ℕ) → Built (tables file places lefts rights prefixes area) n → Codes (shortest (dictionaryOf file) text) out out' r
+  pub built : (lefts rights prefixes : List ℕ) → Built (tables file places lefts rights prefixes area) n
+      → Codes (shortest (dictionaryOf file) text) out out' r
 
 -- `encode_greedy`: the longest row at each place
 pub record GreedyReady (file places area : List ℕ) (n : ℕ) (text out : List ℕ) : Type 0 where
@@ -48,4 +49,5 @@ pub record GreedyReady (file places area : List ℕ) (n : ℕ) (text out : List 
 
 pub record GreedyIs (file places area : List ℕ) (n : ℕ) (text out out' : List ℕ) (r : ℕ) : Type 0 where
   pub written : Written n text out out' r
-  pub built : (lefts rights prefixes : List ℕ) → Built (tables file places lefts rights prefixes area) n → Codes (greedy (dictionaryOf file) text) out out' r
+  pub built : (lefts rights prefixes : List ℕ) → Built (tables file places lefts rights prefixes area) n
+      → Codes (greedy (dictionaryOf file) text) out out' r

@@ -1,4 +1,5 @@
--- The entries of the work buffer: for each place of a text the count of the shortest codes from there on, and the first of them with its length. Assumes nothing.
+-- The entries of the work buffer: for each place of a text the count of the shortest codes from there on, and the
+-- first of them with its length. Assumes nothing.
 use mathlib.Core.Path.{_≡_}
 use mathlib.Core.List.{List}
 use mathlib.Core.Bool.{true, false}
@@ -12,7 +13,8 @@ use Rattle.built.specs.Built.{dictionaryOf, Built}
 use Rattle.shortest_encoder.specs.Encoders.{Written, Codes, EntriesReady}
 use Rattle.tables.specs.Tables.{Tables, tables}
 
--- the entry of count codes, the first of which is row, of len bytes: of two entries the lesser one has fewer codes, or as many and the longer row
+-- the entry of count codes, the first of which is row, of len bytes: of two entries the lesser one has fewer codes,
+-- or as many and the longer row
 abbrev pub entryOf : ℕ → ℕ → ℕ → ℕ
 entryOf count len row = count * 262144 + (64 - len) * 4096 + row
 
@@ -46,7 +48,8 @@ pub record EntryReady (file places area : List ℕ) (n : ℕ) (text work : List 
 pub record EntryIs (file places area : List ℕ) (n : ℕ) (text work : List ℕ) (i r : ℕ) : Type 0 where
   pub row : r % 4096 < n
   pub few : r / 262144 ≤ length text - i
-  pub built : (lefts rights prefixes : List ℕ) → Built (tables file places lefts rights prefixes area) n → AreEntries (dictionaryOf file) text work (i + 1)
+  pub built : (lefts rights prefixes : List ℕ) → Built (tables file places lefts rights prefixes area) n
+      → AreEntries (dictionaryOf file) text work (i + 1)
       → r ≡ entry (dictionaryOf file) (drop i text)
 
 -- the work buffer has the entries of all places, and is unchanged beyond them
@@ -54,7 +57,8 @@ pub record Entries (file places area : List ℕ) (n : ℕ) (text work work' : Li
   pub size : length work' ≡ length work
   pub beyond : drop (length text) work' ≡ drop (length text) work
   pub bounded : Bounded n work' (length text) 0
-  pub built : (lefts rights prefixes : List ℕ) → Built (tables file places lefts rights prefixes area) n → AreEntries (dictionaryOf file) text work' 0
+  pub built : (lefts rights prefixes : List ℕ) → Built (tables file places lefts rights prefixes area) n
+      → AreEntries (dictionaryOf file) text work' 0
 
 -- the codes are read from the entries of all places
 pub record CodesReady (text work out : List ℕ) : Type 0 where

@@ -17,7 +17,8 @@ fn lesser(a: u32, b: u32) -> u32
     if a < b { a } else { b }
 }
 
-// The entry of count codes, the first of which is row, of len bytes. Of two entries of a place the lesser one has fewer codes, or as many and the longer row.
+// The entry of count codes, the first of which is row, of len bytes. Of two entries of a place the lesser one has
+// fewer codes, or as many and the longer row.
 fn entry_of(count: u32, len: usize, row: u32) -> u32
     requires { ⌜ (count < 16384) × ((0 < len) × ((len ≤ 64) × (row < 4096))) ⌝ }
     ensures { λ r. ⌜ r ≡ entryOf count len row ⌝ }
@@ -48,7 +49,8 @@ fn best_at(
     work: &[u32],
 ) -> u32
     requires { ⌜ EntryReady (now file) (now places) (now area) n (now text) (now work) i ⌝ }
-    ensures { λ r. ⌜ EntryIs (now (file .entry)) (now (places .entry)) (now (area .entry)) n (now (text .entry)) (now (work .entry)) i r ⌝ }
+    ensures { λ r. ⌜ EntryIs (now (file .entry)) (now (places .entry)) (now (area .entry)) n (now (text .entry))
+        (now (work .entry)) i r ⌝ }
 {
     let first = search_area::first_match(file, places, n, area, text, i);
     if first.row == NONE {
@@ -79,7 +81,8 @@ fn best_at(
 // The entries of all places, from the last one on.
 fn fill_entries(file: &[u8], places: &[u32], area: &[u32], n: usize, text: &[u8], work: &mut [u32])
     requires { ⌜ EntriesReady (now file) (now places) (now area) n (now text) (now work) ⌝ }
-    ensures { λ r. ⌜ Entries (now (file .entry)) (now (places .entry)) (now (area .entry)) n (now (text .entry)) (now (work .entry)) (now (work .exit)) ⌝ }
+    ensures { λ r. ⌜ Entries (now (file .entry)) (now (places .entry)) (now (area .entry)) n (now (text .entry))
+        (now (work .entry)) (now (work .exit)) ⌝ }
 {
     let mut i = text.len();
     while i > 0 {
@@ -89,7 +92,8 @@ fn fill_entries(file: &[u8], places: &[u32], area: &[u32], n: usize, text: &[u8]
     }
 }
 
-// The codes of the entries, from the first place on, into out, and how many. Each entry says how many bytes its row has.
+// The codes of the entries, from the first place on, into out, and how many. Each entry says how many bytes its row
+// has.
 fn read_codes(text: &[u8], work: &[u32], out: &mut [u32]) -> usize
     requires { ⌜ CodesReady (now text) (now work) (now out) ⌝ }
     ensures { λ r. ⌜ CodesRead (now (text .entry)) (now (work .entry)) (now (out .entry)) (now (out .exit)) r ⌝ }
@@ -117,17 +121,20 @@ pub fn encode_minimal_core(
     work: &mut [u32],
 ) -> usize
     requires { ⌜ MinimalReady (now file) (now places) (now area) n (now text) (now out) (now work) ⌝ }
-    ensures { λ r. ⌜ MinimalIs (now (file .entry)) (now (places .entry)) (now (area .entry)) n (now (text .entry)) (now (out .entry)) (now (out .exit)) (now (work .entry)) (now (work .exit)) r ⌝ }
+    ensures { λ r. ⌜ MinimalIs (now (file .entry)) (now (places .entry)) (now (area .entry)) n (now (text .entry))
+        (now (out .entry)) (now (out .exit)) (now (work .entry)) (now (work .exit)) r ⌝ }
 {
     fill_entries(file, places, area, n, text, work);
     read_codes(text, work, out)
 }
 
-// The longest row that begins the text from at on, with its length, or NONE and 0. The rows are met, shortest first, until none is longer or the text ends.
+// The longest row that begins the text from at on, with its length, or NONE and 0. The rows are met, shortest first,
+// until none is longer or the text ends.
 fn longest_at(file: &[u8], places: &[u32], area: &[u32], n: usize, text: &[u8], at: usize) -> Match
     requires { ⌜ Placed (now file) (now places) n ⌝ }
     requires { ⌜ (areaSize ≤ length (now area)) × (at ≤ length (now text)) ⌝ }
-    ensures { λ r. ⌜ NextMatch (now (file .entry)) (now (places .entry)) n (now (area .entry)) (drop at (now (text .entry))) (r .row) (r .len) ⌝ }
+    ensures { λ r. ⌜ NextMatch (now (file .entry)) (now (places .entry)) n (now (area .entry))
+        (drop at (now (text .entry))) (r .row) (r .len) ⌝ }
 {
     let first = search_area::first_match(file, places, n, area, text, at);
     if first.row == NONE {
@@ -156,7 +163,8 @@ pub fn encode_greedy_core(
     out: &mut [u32],
 ) -> usize
     requires { ⌜ GreedyReady (now file) (now places) (now area) n (now text) (now out) ⌝ }
-    ensures { λ r. ⌜ GreedyIs (now (file .entry)) (now (places .entry)) (now (area .entry)) n (now (text .entry)) (now (out .entry)) (now (out .exit)) r ⌝ }
+    ensures { λ r. ⌜ GreedyIs (now (file .entry)) (now (places .entry)) (now (area .entry)) n (now (text .entry))
+        (now (out .entry)) (now (out .exit)) r ⌝ }
 {
     let mut at = 0;
     let mut count = 0;

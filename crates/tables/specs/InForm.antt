@@ -45,11 +45,13 @@ prefixInForm n size i p = eqb p none || (ltb p n && ltb (size p) (size i))
 
 -- the parts l and r of row i are the row twice (one byte) or two lower rows whose lengths add up
 unfoldable pub partsInForm : (ℕ → ℕ) → ℕ → ℕ → ℕ → Bool
-partsInForm size i l r = (eqb l i && (eqb r i && eqb (size i) 1)) || (ltb l i && (ltb r i && eqb (size l + size r) (size i)))
+partsInForm size i l r =
+    (eqb l i && (eqb r i && eqb (size i) 1)) || (ltb l i && (ltb r i && eqb (size l + size r) (size i)))
 
 -- prefix and parts of row i are in form
 unfoldable pub rowInForm : ℕ → (ℕ → ℕ) → List ℕ → List ℕ → List ℕ → ℕ → Bool
-rowInForm n size lefts rights prefixes i = prefixInForm n size i (getD prefixes i 0) && partsInForm size i (getD lefts i 0) (getD rights i 0)
+rowInForm n size lefts rights prefixes i =
+    prefixInForm n size i (getD prefixes i 0) && partsInForm size i (getD lefts i 0) (getD rights i 0)
 
 module _ (T : Tables) where
   open Tables T using (file, places as placeTable, lefts, rights, prefixes, area)
@@ -60,8 +62,8 @@ module _ (T : Tables) where
       leb (count file) (length placeTable) && (leb (count file) (length lefts) && (leb (count file) (length rights)
       && (leb (count file) (length prefixes) && leb areaSize (length area))))
 
-  -- tables in form: the file passes 2 to 4, the tables are large enough (only the first n entries count), places match the file,
-  -- and prefix and parts of each row are in form
+  -- tables in form: the file passes 2 to 4, the tables are large enough (only the first n entries count), places
+  -- match the file, and prefix and parts of each row are in form
   unfoldable pub inForm : Bool
   inForm =
       isRows (checkOf file) && (largeEnough && (equal (take (count file) placeTable) (places file)

@@ -1,4 +1,5 @@
--- What tables in form give to the functions over them: every entry that they read is an index that they may use. Assumes nothing.
+-- What tables in form give to the functions over them: every entry that they read is an index that they may use.
+-- Assumes nothing.
 use mathlib.Core.Path.{_≡_}
 use mathlib.Core.List.{List, []}
 use mathlib.Core.Logic.{_⊎_}
@@ -35,7 +36,8 @@ pub record PlacesReady (file placeTable : List ℕ) (n : ℕ) : Type 0 where
 pub record PrefixesReady (file prefixes : List ℕ) (n : ℕ) : Type 0 where
   pub room : n ≤ length prefixes
   pub shorter : (c : ℕ) → c < n
-      → (getD prefixes c 0 ≡ none) ⊎ ((getD prefixes c 0 < n) × (length (getD (rows file) (getD prefixes c 0) []) < length (getD (rows file) c [])))
+      → (getD prefixes c 0 ≡ none) ⊎ ((getD prefixes c 0 < n) ×
+      (length (getD (rows file) (getD prefixes c 0) []) < length (getD (rows file) c [])))
 
 -- tables in form, n being the count of rows
 pub record Ready (T : Tables) (n : ℕ) : Type 0 where

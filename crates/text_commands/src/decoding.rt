@@ -78,8 +78,8 @@ fn say_codes(
     }
 }
 
-// The same for the codes at the front of a buffer. The buffer for the bytes is made here, where nothing else is done, as
-// the page's is (`show_codes`).
+// The same for the codes at the front of a buffer. The buffer for the bytes is made here, where nothing else is done,
+// as the page's is (`show_codes`).
 fn decode_codes(
     file: &[u8],
     places: &[u32],

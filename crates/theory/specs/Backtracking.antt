@@ -38,7 +38,8 @@ module _ (D : Dictionary) where
   -- the first of these rows that passes with the code before and whose end is not dead
   abbrev pub firstFit : List ℕ → (ℕ → Bool) → List ℕ → Option ℕ
   firstFit K dead [] = none
-  firstFit K dead (c ∷ cs) = elim (follows K c && not (dead (place (c ∷ K)))) [ true ↦ some c | false ↦ firstFit K dead cs ]
+  firstFit K dead (c ∷ cs) =
+      elim (follows K c && not (dead (place (c ∷ K)))) [ true ↦ some c | false ↦ firstFit K dead cs ]
 
   -- this place is marked dead and one code taken back; that code is the next to try, and then its prefixes
   abbrev pub takeBack : List ℕ → (ℕ → Bool) → State
@@ -52,7 +53,9 @@ module _ (D : Dictionary) where
 
     -- a step adds or takes back one code
     abbrev pub step : State → State
-    step s = elim (firstFit (s .stack) (s .dead) (s .next)) [ some c ↦ add c (s .stack) (s .dead) | none ↦ takeBack (s .stack) (s .dead) ]
+    step s =
+        elim (firstFit (s .stack) (s .dead) (s .next))
+        [ some c ↦ add c (s .stack) (s .dead) | none ↦ takeBack (s .stack) (s .dead) ]
 
     abbrev pub start : State
     start = record { stack = []; dead = λ _. false; next = rowsAt D t }
@@ -93,7 +96,8 @@ module _ (D : Dictionary) (t : List ℕ) (limit : ℕ) where
   runLimited zero s = final (length (s .stack))
   runLimited (suc k) s = elim (finished D t s) [
     | true ↦ final (length (s .stack))
-    | false ↦ elim (not (finished D t (step D t s)) && ltb buffered (length (step D t s .stack))) [ true ↦ over | false ↦ runLimited k (step D t s) ]
+    | false ↦ elim (not (finished D t (step D t s)) && ltb buffered (length (step D t s .stack)))
+        [ true ↦ over | false ↦ runLimited k (step D t s) ]
   ]
 
   unfoldable pub countTillLimit : Limited

@@ -23,7 +23,8 @@ module _ (D : Dictionary) where
   listedBeside append w u s = listed D w u s
   listedBeside prepend w u s = listed D w s u
 
-  -- the part of row u at the end where rows are typed; before the pass of row u, and in prepending in that pass, it stands there
+  -- the part of row u at the end where rows are typed; before the pass of row u, and in prepending in that pass, it
+  -- stands there
   abbrev pub innerPart : Side → ℕ → ℕ
   innerPart append u = D .right u
   innerPart prepend u = D .left u

@@ -1,4 +1,5 @@
--- The merge procedure: any neighbours whose joined bytes are a row are joined, the lowest row first, and of equal ones the leftmost.
+-- The merge procedure: any neighbours whose joined bytes are a row are joined, the lowest row first, and of equal
+-- ones the leftmost.
 use mathlib.Core.List.{List, [], _∷_, _++_}
 use mathlib.Core.Bool.{true, false}
 use Prim.Native.Nat.{ℕ, zero, suc, min}

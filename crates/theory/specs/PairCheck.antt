@@ -12,8 +12,8 @@ use Rattle.theory.specs.Paper.{listed}
 pub data Turn : Type 0 where
   stop undo-left undo-right : Turn
 
--- by whether the left and the right one are long, and whether the left one has the higher row number:
--- undo the part with the higher row number, the right one if both are the same row; where that one is a single byte, the other
+-- by whether the left and the right one are long, and whether the left one has the higher row number: undo the part
+-- with the higher row number, the right one if both are the same row; where that one is a single byte, the other
 abbrev pub turn-by : Bool → Bool → Bool → Turn
 turn-by false false b = stop
 turn-by false true b = undo-right
@@ -34,13 +34,17 @@ module _ (D : Dictionary) where
   abbrev pub joinedBelow : ℕ → ℕ → ℕ → Bool
   joinedBelow m u v = ltb (join D u v) m
 
-  -- undoing goes on until both are single bytes, for k turns at most. Across the seam no join below the limit m may exist; it is
-  -- what comes before the join last undone: a lower row, or the same row further left
+  -- undoing goes on until both are single bytes, for k turns at most. Across the seam no join below the limit m may
+  -- exist; it is what comes before the join last undone: a lower row, or the same row further left
   abbrev pub walk : (ℕ → ℕ → ℕ → Bool) → ℕ → ℕ → ℕ → ℕ → Bool
   walk across zero u v m = false
   walk across (suc k) u v m = elim (across m u v) [
     | true ↦ false
-    | false ↦ elim (turn u v) [ stop ↦ true | undo-left ↦ walk across k (D .right u) v u | undo-right ↦ walk across k u (D .left v) (suc v) ]
+    | false ↦ elim (turn u v) [
+      | stop ↦ true
+      | undo-left ↦ walk across k (D .right u) v u
+      | undo-right ↦ walk across k u (D .left v) (suc v)
+    ]
   ]
 
   -- the pair check over the rows below q; u + v falls at each turn

@@ -16,7 +16,10 @@ module _ (D : Dictionary) where
   -- all rows that start at the front of t and have at most l bytes, longest first
   abbrev pub rowsUpTo : ℕ → List ℕ → List ℕ
   rowsUpTo zero t = []
-  rowsUpTo (suc l) t = elim (ltb (rowOf D (take (suc l) t)) (D .count)) [ true ↦ rowOf D (take (suc l) t) ∷ rowsUpTo l t | false ↦ rowsUpTo l t ]
+  rowsUpTo (suc l) t = elim (ltb (rowOf D (take (suc l) t)) (D .count)) [
+    | true ↦ rowOf D (take (suc l) t) ∷ rowsUpTo l t
+    | false ↦ rowsUpTo l t
+  ]
 
   -- all rows that start at the front of t, longest first
   abbrev pub rowsAt : List ℕ → List ℕ
@@ -77,7 +80,8 @@ module _ (rows : List (List ℕ)) where
 
   abbrev pub firstParts : List (Option Parts) → ℕ → List ℕ → Option Parts
   firstParts known w [] = Option.none
-  firstParts known w (c ∷ cs) = elim (arePartsOf known w c) [ true ↦ some (record { left = c; right = restOf known w c }) | false ↦ firstParts known w cs ]
+  firstParts known w (c ∷ cs) = elim (arePartsOf known w c)
+      [ true ↦ some (record { left = c; right = restOf known w c }) | false ↦ firstParts known w cs ]
 
   -- parts: a one-byte row has itself twice. For a longer row, the rows that begin it are tried, longest first
   abbrev pub partsOf : List (Option Parts) → ℕ → Option Parts
@@ -95,7 +99,8 @@ module _ (rows : List (List ℕ)) where
   unfoldable pub dictionary : Dictionary
   dictionary = withParts (partsBelow (length rows))
 
-  -- rows that build accepts, the file's form and the hashes apart: different rows of one byte or more, each byte with a row, each row with parts
+  -- rows that build accepts, the file's form and the hashes apart: different rows of one byte or more, each byte with
+  -- a row, each row with parts
   pub record Accepted : Type 0 where
     pub filled : (u : ℕ) → u < length rows → 0 < length (bytesOf u)
     pub distinct : (u v : ℕ) → u < length rows → v < length rows → bytesOf u ≡ bytesOf v → u ≡ v

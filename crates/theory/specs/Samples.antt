@@ -54,8 +54,18 @@ cases =
     ∷ record { given = shortest (dictionary E) abcd; said = 257 ∷ 258 ∷ [] }
     ∷ record { given = greedy (dictionary E) abcd; said = 257 ∷ 258 ∷ [] }
     -- P4 append counts; P5 prepending d, c, b, a
-    ∷ record { given = countAt (dictionary E) append abcd 0 ∷ countAt (dictionary E) append abcd 1 ∷ countAt (dictionary E) append abcd 2 ∷ countAt (dictionary E) append abcd 3 ∷ []; said = 1 ∷ 1 ∷ 2 ∷ 3 ∷ [] }
-    ∷ record { given = countAt (dictionary E) prepend dcba 0 ∷ countAt (dictionary E) prepend dcba 1 ∷ countAt (dictionary E) prepend dcba 2 ∷ countAt (dictionary E) prepend dcba 3 ∷ []; said = 1 ∷ 1 ∷ 2 ∷ 3 ∷ [] }
+    ∷ record {
+      given =
+          countAt (dictionary E) append abcd 0 ∷ countAt (dictionary E) append abcd 1
+          ∷ countAt (dictionary E) append abcd 2 ∷ countAt (dictionary E) append abcd 3 ∷ [];
+      said = 1 ∷ 1 ∷ 2 ∷ 3 ∷ [];
+    }
+    ∷ record {
+      given =
+          countAt (dictionary E) prepend dcba 0 ∷ countAt (dictionary E) prepend dcba 1
+          ∷ countAt (dictionary E) prepend dcba 2 ∷ countAt (dictionary E) prepend dcba 3 ∷ [];
+      said = 1 ∷ 1 ∷ 2 ∷ 3 ∷ [];
+    }
     -- P6 interval 1 to 4; P7 2 to 2
     ∷ record { given = intervalCount (dictionary E) abcd 1 4 ∷ []; said = 2 ∷ [] }
     ∷ record { given = intervalCount (dictionary E) abcd 2 2 ∷ []; said = 0 ∷ [] }

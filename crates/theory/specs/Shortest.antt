@@ -15,8 +15,8 @@ module _ (D : Dictionary) where
   abbrev pub shorter : List ℕ → List ℕ → List ℕ
   shorter a b = elim (ltb (length b) (length a)) [ true ↦ b | false ↦ a ]
 
-  -- one of these rows and the shortest codes of what is behind it: the shortest such list, of equally long ones the first.
-  -- behind has the shortest codes of the text without its first byte, without its first two, and so on
+  -- one of these rows and the shortest codes of what is behind it: the shortest such list, of equally long ones the
+  -- first. behind has the shortest codes of the text without its first byte, without its first two, and so on
   abbrev pub bestOf : List (List ℕ) → List ℕ → List ℕ
   bestOf behind [] = []
   bestOf behind (c ∷ []) = c ∷ getD behind (length (D .bytes c) - 1) []
@@ -41,7 +41,8 @@ module _ (D : Dictionary) where
   abbrev pub greedyUpTo : ℕ → List ℕ → List ℕ
   greedyUpTo zero t = []
   greedyUpTo (suc k) [] = []
-  greedyUpTo (suc k) (b ∷ t) = longestAt D (b ∷ t) ∷ greedyUpTo k (drop (length (D .bytes (longestAt D (b ∷ t)))) (b ∷ t))
+  greedyUpTo (suc k) (b ∷ t) =
+      longestAt D (b ∷ t) ∷ greedyUpTo k (drop (length (D .bytes (longestAt D (b ∷ t)))) (b ∷ t))
 
   unfoldable pub greedy : List ℕ → List ℕ
   greedy t = greedyUpTo (length t) t

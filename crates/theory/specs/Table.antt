@@ -19,7 +19,8 @@ module _ (D : Dictionary) where
   abbrev pub walkBack : ℕ → List ℕ → ℕ → List ℕ
   walkBack zero table e = []
   walkBack (suc k) table zero = []
-  walkBack (suc k) table (suc e) = walkBack k table (suc e - length (D .bytes (getD table e none))) ++ getD table e none ∷ []
+  walkBack (suc k) table (suc e) =
+      walkBack k table (suc e - length (D .bytes (getD table e none))) ++ getD table e none ∷ []
 
   -- the codes by the table; a code has one byte or more
   unfoldable pub tableCodes : List ℕ → List ℕ

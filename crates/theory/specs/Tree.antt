@@ -37,7 +37,8 @@ module _ (parent : ℕ → ℕ) where
     childrenBelow q zero = 0
     childrenBelow q (suc i) = childrenBelow q i + elim (ltb 0 i && eqb (parent i) q) [ true ↦ size i | false ↦ 0 ]
 
-    -- 0 has number 0; each one and all below it take consecutive numbers, itself first, then its children; k levels at most
+    -- 0 has number 0; each one and all below it take consecutive numbers, itself first, then its children; k levels
+    -- at most
     abbrev pub numberIn : ℕ → ℕ → ℕ
     numberIn zero i = 0
     numberIn (suc k) zero = 0

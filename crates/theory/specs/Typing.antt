@@ -1,4 +1,5 @@
--- Typing records. Bytes stand in the order in which they were typed: appending puts each at the end of the text, prepending at the front.
+-- Typing records. Bytes stand in the order in which they were typed: appending puts each at the end of the text,
+-- prepending at the front.
 use mathlib.Core.List.{List, reverse}
 use mathlib.Core.Bool.{Bool, true, false, _&&_, _||_}
 use Prim.Native.Nat.{ℕ, suc, _-_}
@@ -28,7 +29,8 @@ pub record Entry : Type 0 where
   pub count : ℕ
 
 module _ (D : Dictionary) (side : Side) where
-  -- record i of typed bytes: byte i, and the code and the number of codes of the merge procedure for the first i + 1 bytes
+  -- record i of typed bytes: byte i, and the code and the number of codes of the merge procedure for the first i + 1
+  -- bytes
   unfoldable pub codeAt : List ℕ → ℕ → ℕ
   codeAt typed i = endCode side (encode D (inOrder side (take (suc i) typed)))
 
@@ -46,15 +48,18 @@ passesBeside D prepend before c = passes D (D .count) c before
 module _ (D : Dictionary) (side : Side) (bytes codes counts : List ℕ) where
   -- a record's row ends the bytes up to it
   abbrev pub rowEnds : ℕ → ℕ → Bool
-  rowEnds i c = ltb c (D .count) && (leb (length (D .bytes c)) (suc i) && equal (drop (suc i - length (D .bytes c)) (take (suc i) bytes)) (inOrder side (D .bytes c)))
+  rowEnds i c =
+      ltb c (D .count) && (leb (length (D .bytes c)) (suc i)
+      && equal (drop (suc i - length (D .bytes c)) (take (suc i) bytes)) (inOrder side (D .bytes c)))
 
-  -- either that row reaches the first byte and the count is 1, or the code passes with the code of the record just before the row's bytes
-  -- and the count is one more than that record's
+  -- either that row reaches the first byte and the count is 1, or the code passes with the code of the record just
+  -- before the row's bytes and the count is one more than that record's
   abbrev pub follows : ℕ → ℕ → ℕ → Bool
   follows i c k =
       (eqb (length (D .bytes c)) (suc i) && eqb k 1)
       || (ltb (length (D .bytes c)) (suc i)
-      && (passesBeside D side (getD codes (i - length (D .bytes c)) 0) c && eqb k (suc (getD counts (i - length (D .bytes c)) 0))))
+      && (passesBeside D side (getD codes (i - length (D .bytes c)) 0) c
+      && eqb k (suc (getD counts (i - length (D .bytes c)) 0))))
 
   -- a record in form
   unfoldable pub inForm : ℕ → Bool

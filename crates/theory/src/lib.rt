@@ -1,4 +1,5 @@
-// Definitions and theorems only: specs/ has the definitions, proofs/ the theorems. A crate needs a source, and this is it.
+// Definitions and theorems only: specs/ has the definitions, proofs/ the theorems. A crate needs a source, and this
+// is it.
 ghost use mathlib.Core.Path.{_≡_};
 
 // The number that stands for none: 4294967295.

@@ -1,4 +1,5 @@
--- The pair check over tables: what it may read, and what the tables must say for its answer to be the definition's. Assumes nothing.
+-- The pair check over tables: what it may read, and what the tables must say for its answer to be the definition's.
+-- Assumes nothing.
 use mathlib.Core.Path.{_≡_}
 use mathlib.Core.List.{List, [], _++_}
 use mathlib.Core.Logic.{_⊎_}
@@ -19,7 +20,8 @@ use Rattle.marks.specs.Marks.{marked, bitKey}
 
 -- rows differ from each other
 abbrev pub Distinct : List ℕ → Type 0
-Distinct file = (u v : ℕ) → u < length (rows file) → v < length (rows file) → getD (rows file) u [] ≡ getD (rows file) v [] → u ≡ v
+Distinct file = (u v : ℕ) → u < length (rows file) → v < length (rows file)
+    → getD (rows file) u [] ≡ getD (rows file) v [] → u ≡ v
 
 -- the tables of the rows below q are those of the dictionary D
 pub record Tells (D : Dictionary) (file lefts rights : List ℕ) (q : ℕ) : Type 0 where
@@ -43,7 +45,8 @@ rowBelow c m = elim (ltb c m) [ true ↦ c | false ↦ none ]
 
 -- the marks of pairs, from number 15,360 of the search area on: the two parts of every longer row below q are marked
 abbrev pub PairsMarked : List ℕ → List ℕ → List ℕ → ℕ → Type 0
-PairsMarked lefts rights area q = (c : ℕ) → c < q → getD lefts c 0 < c → marked area pairs (pairKey (getD lefts c 0) (getD rights c 0)) ≡ true
+PairsMarked lefts rights area q = (c : ℕ) → c < q → getD lefts c 0 < c
+    → marked area pairs (pairKey (getD lefts c 0) (getD rights c 0)) ≡ true
 
 -- the seam of two bytes, one of 16,384
 unfoldable pub seamBit : ℕ → ℕ → ℕ
@@ -62,11 +65,15 @@ lastByte file c = getD (getD (rows file) c []) (length (getD (rows file) c []) -
 
 -- the key of the seam in row c behind as many bytes as row l has: of the last of these bytes and the next one
 unfoldable pub seamAt : List ℕ → ℕ → ℕ → ℕ
-seamAt file c l = seamKey (getD (getD (rows file) c []) (length (getD (rows file) l []) - 1) 0) (getD (getD (rows file) c []) (length (getD (rows file) l [])) 0)
+seamAt file c l =
+    seamKey (getD (getD (rows file) c []) (length (getD (rows file) l []) - 1) 0)
+    (getD (getD (rows file) c []) (length (getD (rows file) l [])) 0)
 
--- the marks of seams, numbers 14,848 to 15,359 of the search area: the seam between the parts of every longer row below q is marked
+-- the marks of seams, numbers 14,848 to 15,359 of the search area: the seam between the parts of every longer row
+-- below q is marked
 abbrev pub SeamsMarked : List ℕ → List ℕ → List ℕ → ℕ → Type 0
-SeamsMarked file lefts area q = (c : ℕ) → c < q → getD lefts c 0 < c → marked area seams (seamAt file c (getD lefts c 0)) ≡ true
+SeamsMarked file lefts area q = (c : ℕ) → c < q → getD lefts c 0 < c
+    → marked area seams (seamAt file c (getD lefts c 0)) ≡ true
 
 -- what may be read: the rows, the parts of the rows below q, and two such rows
 pub record PairReady (P : PairTables) (n q u v : ℕ) : Type 0 where
@@ -101,9 +108,11 @@ pub record JoinReady (P : PairTables) (n q m u v : ℕ) : Type 0 where
 -- r is the row below m that has u and v as its parts, or none
 pub record JoinIs (P : PairTables) (n q m u v r : ℕ) : Type 0 where
   pub bound : (r ≡ none) ⊎ (r < m)
-  pub nothing : r ≡ none → PairReady P n q u v → (D : Dictionary) → Tells D (P .file) (P .lefts) (P .rights) q → Distinct (P .file) → Finds (P .file) (P .places) n (P .area) → PairsMarked (P .lefts) (P .rights) (P .area) q
+  pub nothing : r ≡ none → PairReady P n q u v → (D : Dictionary) → Tells D (P .file) (P .lefts) (P .rights) q
+      → Distinct (P .file) → Finds (P .file) (P .places) n (P .area) → PairsMarked (P .lefts) (P .rights) (P .area) q
       → listedBelow D m u v ≡ false
-  pub is : (r ≡ none → ⊥) → PairReady P n q u v → (D : Dictionary) → Tells D (P .file) (P .lefts) (P .rights) q → Distinct (P .file) → Finds (P .file) (P .places) n (P .area)
+  pub is : (r ≡ none → ⊥) → PairReady P n q u v → (D : Dictionary) → Tells D (P .file) (P .lefts) (P .rights) q
+      → Distinct (P .file) → Finds (P .file) (P .places) n (P .area)
       → listed D r u v ≡ true
 
 -- whether there is such a row
@@ -115,8 +124,11 @@ pub record IsJoined (P : PairTables) (n q m u v : ℕ) (b : Bool) : Type 0 where
 
 -- the answer is that of the pair check over the rows below q
 pub record PairIs (P : PairTables) (n q u v : ℕ) (r : Bool) : Type 0 where
-  pub passes-is : (D : Dictionary) → Tells D (P .file) (P .lefts) (P .rights) q → Distinct (P .file) → Finds (P .file) (P .places) n (P .area) → PairsMarked (P .lefts) (P .rights) (P .area) q → r ≡ passes D q u v
+  pub passes-is : (D : Dictionary) → Tells D (P .file) (P .lefts) (P .rights) q → Distinct (P .file)
+      → Finds (P .file) (P .places) n (P .area) → PairsMarked (P .lefts) (P .rights) (P .area) q → r ≡ passes D q u v
 
 -- the answer is the same where the marks of seams are looked at too
 pub record PassIs (P : PairTables) (n q u v : ℕ) (r : Bool) : Type 0 where
-  pub passes-is : (D : Dictionary) → Tells D (P .file) (P .lefts) (P .rights) q → Distinct (P .file) → Finds (P .file) (P .places) n (P .area) → PairsMarked (P .lefts) (P .rights) (P .area) q → SeamsMarked (P .file) (P .lefts) (P .area) q → r ≡ passes D q u v
+  pub passes-is : (D : Dictionary) → Tells D (P .file) (P .lefts) (P .rights) q → Distinct (P .file)
+      → Finds (P .file) (P .places) n (P .area) → PairsMarked (P .lefts) (P .rights) (P .area) q
+      → SeamsMarked (P .file) (P .lefts) (P .area) q → r ≡ passes D q u v

@@ -70,8 +70,8 @@ fn row_below(row: u32, bound: u32) -> u32
     if row < bound { row } else { NONE }
 }
 
-// The row below `bound` that has the two as its parts, or NONE, `limit` being the number of rows whose parts are known. Where the row that the search
-// area names does not have them as its parts, their join is looked up.
+// The row below `bound` that has the two as its parts, or NONE, `limit` being the number of rows whose parts are
+// known. Where the row that the search area names does not have them as its parts, their join is looked up.
 fn look_up(
     file: &[u8],
     places: &[u32],
@@ -168,7 +168,8 @@ fn is_joined_before(
     true
 }
 
-// Whether a longer left code is undone before the right one, whose left part is `part`: it is higher, or the right one is a single byte.
+// Whether a longer left code is undone before the right one, whose left part is `part`: it is higher, or the right
+// one is a single byte.
 fn is_undone_first(left: u32, right: u32, part: u32) -> bool
     ensures { λ r. ⌜ r ≡ ltb right left || eqb part right ⌝ }
 {
@@ -247,7 +248,8 @@ pub fn seam_key(a: u8, b: u8) -> usize
     seam / 32 * 1024 + seam % 32 * 33
 }
 
-// Whether the seam of two bytes is marked: if not, no row has a left part that ends in a and a right part that begins with b.
+// Whether the seam of two bytes is marked: if not, no row has a left part that ends in a and a right part that begins
+// with b.
 fn may_join(area: &[u32], a: u8, b: u8) -> bool
     requires { ⌜ areaSize ≤ length (now area) ⌝ }
     ensures { λ r. ⌜ r ≡ marked (now (area .entry)) seams (seamKey a b) ⌝ }
@@ -259,7 +261,8 @@ fn may_join(area: &[u32], a: u8, b: u8) -> bool
 // Whether the seam of two rows is marked.
 fn may_meet(file: &[u8], places: &[u32], n: usize, area: &[u32], left: u32, right: u32) -> bool
     requires { ⌜ SeamReady (now file) (now places) (now area) n left right ⌝ }
-    ensures { λ r. ⌜ r ≡ marked (now (area .entry)) seams (seamKey (lastByte (now (file .entry)) left) (firstByte (now (file .entry)) right)) ⌝ }
+    ensures { λ r. ⌜ r ≡ marked (now (area .entry)) seams (seamKey (lastByte (now (file .entry)) left)
+        (firstByte (now (file .entry)) right)) ⌝ }
 {
     let before = bytes_of(file, places, n, wide(left));
     let after = bytes_of(file, places, n, wide(right));

@@ -23,7 +23,8 @@ pub enum Written {
     Failed(i32),
 }
 
-// All that a descriptor gives. One more read tells the end from an error and from a longer file; a terminal is not asked again.
+// All that a descriptor gives. One more read tells the end from an error and from a longer file; a terminal is not
+// asked again.
 fn read_all(fd: i32, buffer: &mut [u8]) -> Source {
     let size = io::read_full(fd, buffer);
     if 0 < size && libc::isatty(fd) == 1 {
@@ -94,7 +95,8 @@ fn removed(temporary: &[u8], error: i32) -> Written {
     Written::Failed(error)
 }
 
-// Writes a temporary file to a descriptor and gives it the name that it is to have, so that under that name there is never a part of it.
+// Writes a temporary file to a descriptor and gives it the name that it is to have, so that under that name there is
+// never a part of it.
 fn write_temporary(fd: i32, temporary: &[u8], name: &[u8], bytes: &[u8]) -> Written {
     if !fill(fd, bytes) {
         let error = os::errno();

@@ -1,4 +1,5 @@
--- What the typing calls answer, and what they leave in the head and in the records: document 01, "Typing and intervals". Assumes nothing.
+-- What the typing calls answer, and what they leave in the head and in the records: document 01, "Typing and
+-- intervals". Assumes nothing.
 use mathlib.Core.Path.{_≡_}
 use mathlib.Core.Option.{none, some}
 use mathlib.Core.List.{List, _++_}
@@ -22,7 +23,8 @@ module _ (T : Tables) (side : Typing.Side) where
 
   -- push and extend, not refused: the answer is the new length, and over tables that a build left the records added are
   -- those of the bytes typed so far
-  pub record Longer (len : ℕ) (states : List State) (typed : List ℕ) (len' : ℕ) (states' : List State) (number : ℕ) : Type 0 where
+  pub record Longer (len : ℕ) (states : List State) (typed : List ℕ) (len' : ℕ) (states' : List State)
+      (number : ℕ) : Type 0 where
     pub number-is : number ≡ len + length typed
     pub longer : len' ≡ len + length typed
     pub built : (n : ℕ) → Built T n → (k : ℕ) → k < length typed
@@ -31,11 +33,12 @@ module _ (T : Tables) (side : Typing.Side) where
 
   -- push (with the one byte as `typed`) and extend: a refusal changes nothing; only the records added and the head's
   -- length are written
-  pub record Extended (len : ℕ) (states : List State) (typed : List ℕ) (r : Answer) (len' : ℕ) (states' : List State) : Type 0 where
+  pub record Extended (len : ℕ) (states : List State) (typed : List ℕ) (r : Answer) (len' : ℕ)
+      (states' : List State) : Type 0 where
     pub fine : Bool
     pub form : FormOf T side len (length states) (bytesOf states) (codesOf states) (countsOf states) fine
-    pub call : Call toNumber (extendRefusal T len (length states) fine typed) (λ cause. (len' ≡ len) × (states' ≡ states))
-        (Longer len states typed len' states') r
+    pub call : Call toNumber (extendRefusal T len (length states) fine typed)
+        (λ cause. (len' ≡ len) × (states' ≡ states)) (Longer len states typed len' states') r
     pub size-kept : length states' ≡ length states
     pub before-kept : take len states' ≡ take len states
     pub beyond-kept : drop len' states' ≡ drop len' states
@@ -47,8 +50,9 @@ module _ (T : Tables) (side : Typing.Side) where
     pub call : Call toNumber (tokenCountRefusal T len (length states) fine) noBuffer
         (λ number. number ≡ lastCount (countsOf states) len) r
 
--- truncate: the head's length, if it is in form, becomes the lesser of it and what is to be kept, and that is the answer.
--- `size` is the number of records of the slice
+-- truncate: the head's length, if it is in form, becomes the lesser of it and what is to be kept, and that is the
+-- answer. `size` is the number of records of the slice
 abbrev pub Truncated : (len size keep : ℕ) → Answer → (len' : ℕ) → Type 0
 Truncated len size keep r len' =
-    Call toNumber (truncateRefusal len size) (λ cause. len' ≡ len) (λ number. (number ≡ min len keep) × (len' ≡ min len keep)) r
+    Call toNumber (truncateRefusal len size) (λ cause. len' ≡ len)
+    (λ number. (number ≡ min len keep) × (len' ≡ min len keep)) r

@@ -1,4 +1,5 @@
--- What the steps of a typing call hand over: the records copied into columns, and the columns stored as records. Assumes nothing.
+-- What the steps of a typing call hand over: the records copied into columns, and the columns stored as records.
+-- Assumes nothing.
 use mathlib.Core.Path.{_≡_}
 use mathlib.Core.List.{List}
 use mathlib.Core.Bool.{cond}
@@ -46,8 +47,10 @@ pub record Places (from end size : ℕ) : Type 0 where
   pub room : from < end → Room end size
 
 -- the records at these places have the columns' fields, the others are as before
-pub record Stored (states : List State) (from end : ℕ) (bytes codes counts : List ℕ) (states' : List State) : Type 0 where
+pub record Stored (states : List State) (from end : ℕ) (bytes codes counts : List ℕ)
+    (states' : List State) : Type 0 where
   pub size-kept : length states' ≡ length states
   pub before-kept : take from states' ≡ take from states
   pub beyond-kept : drop end states' ≡ drop end states
-  pub stored : (i : ℕ) → from ≤ i → i < end → getD states' i noState ≡ stateOf (getD bytes i 0) (getD codes i 0) (getD counts i 0)
+  pub stored : (i : ℕ) → from ≤ i → i < end
+      → getD states' i noState ≡ stateOf (getD bytes i 0) (getD codes i 0) (getD counts i 0)

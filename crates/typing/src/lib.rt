@@ -1,5 +1,6 @@
-// Typing records in a lent slice and a head that is lent. The records are copied into columns, `typing_core` works on these, and the records added
-// are stored. The functions with a reference to records or to the head move whole values and call functions by value.
+// Typing records in a lent slice and a head that is lent. The records are copied into columns, `typing_core` works on
+// these, and the records added are stored. The functions with a reference to records or to the head move whole values
+// and call functions by value.
 ghost use mathlib.Core.Path.{_≡_};
 ghost use mathlib.Core.List.{[], _∷_};
 ghost use Prim.Native.Nat.{min};
@@ -15,7 +16,8 @@ use causes::Answer;
 use causes::Cause;
 use typing_core::Side;
 
-// A typing record: a byte, the last code of the text up to it (in prepending the first code), and the number of its codes.
+// A typing record: a byte, the last code of the text up to it (in prepending the first code), and the number of its
+// codes.
 #[repr(C)]
 pub struct State {
     pub byte: u8,
@@ -149,7 +151,8 @@ fn store_all(
     }
 }
 
-// The head's length becomes the lesser of it and what is to be kept; the slice is asked for its number of records alone.
+// The head's length becomes the lesser of it and what is to be kept; the slice is asked for its number of records
+// alone.
 pub fn truncate(head: &mut Head, states: &[State], keep: usize) -> Answer
     ensures { λ r. ⌜ Truncated (now (head .entry) .len) (length (now (states .entry))) keep r
         (now (head .exit) .len) ⌝ }
@@ -298,7 +301,8 @@ fn entry_of(answer: Answer) -> u32
     n as u32
 }
 
-// Types the text, one byte after the other, into records of its own, and writes the count after each. How many bytes were typed.
+// Types the text, one byte after the other, into records of its own, and writes the count after each. How many bytes
+// were typed.
 pub fn type_text(
     side: Side,
     file: &[u8],

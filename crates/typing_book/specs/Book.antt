@@ -1,4 +1,5 @@
--- The typing book of document 01: a text, empty at first, that sees the arguments of the calls and the slice's size, nothing else. Assumes nothing.
+-- The typing book of document 01: a text, empty at first, that sees the arguments of the calls and the slice's size,
+-- nothing else. Assumes nothing.
 use mathlib.Core.Option.{Option, none, some}
 use mathlib.Core.List.{List, [], _∷_, _++_, reverse}
 use Prim.Native.Nat.{ℕ, suc, _-_}
@@ -30,9 +31,11 @@ abbrev pub kept : Side → ℕ → List ℕ → List ℕ
 kept append k book = take k book
 kept prepend k book = drop (length book - k) book
 
--- where 9 (extend's argument over 4,096 bytes) or 12 applies, the book's length being the current one, the call is refused so
+-- where 9 (extend's argument over 4,096 bytes) or 12 applies, the book's length being the current one, the call is
+-- refused so
 abbrev pub bookRefusal : ℕ → List ℕ → Call → Option Cause
-bookRefusal size book (push byte) = firstOf otherOrder (when (full (length book) size (byte ∷ [])) (Full (length book)) ∷ [])
+bookRefusal size book (push byte) =
+    firstOf otherOrder (when (full (length book) size (byte ∷ [])) (Full (length book)) ∷ [])
 bookRefusal size book (extend bytes) =
     firstOf otherOrder (when (over bytes) TooLong ∷ when (full (length book) size bytes) (Full (length book)) ∷ [])
 bookRefusal size book (truncate k) = none
@@ -53,7 +56,8 @@ unless (some cause) book book' = book
 unfoldable pub bookAfter : Side → ℕ → List ℕ → Call → List ℕ
 bookAfter side size book call = unless (bookRefusal size book call) book (turned side book call)
 
--- the number in an answer that is no refusal: the book's new length, or the number of codes that the merge procedure gives for the book
+-- the number in an answer that is no refusal: the book's new length, or the number of codes that the merge procedure
+-- gives for the book
 abbrev pub bookNumber : Dictionary → Side → List ℕ → Call → ℕ
 bookNumber D side book (push byte) = length (turned side book (push byte))
 bookNumber D side book (extend bytes) = length (turned side book (extend bytes))
@@ -68,6 +72,13 @@ abbrev pub byteAt : Side → List ℕ → ℕ → ℕ
 byteAt append book i = getD book i 0
 byteAt prepend book i = getD book (length book - suc i) 0
 
--- record i: byte i, and the last code and the number of codes of the merge procedure for the first i + 1 bytes; in prepending the first code and the number for the last i + 1 bytes
+-- record i: byte i, and the last code and the number of codes of the merge procedure for the first i + 1 bytes; in
+-- prepending the first code and the number for the last i + 1 bytes
 unfoldable pub bookRecord : Dictionary → Side → List ℕ → ℕ → Entry
-bookRecord D side book i = record { byte = byteAt side book i; code = endCode side (encode D (kept side (suc i) book)); count = length (encode D (kept side (suc i) book)) }
+bookRecord D side book i =
+    record {
+      byte = byteAt side book i;
+      code = endCode side (encode D (kept side (suc i) book));
+      count = length
+          (encode D (kept side (suc i) book));
+    }

@@ -1,4 +1,5 @@
--- A list of typing calls over one slice and one head, each with what its contract ensures, and what the typing book says of the list. Assumes nothing.
+-- A list of typing calls over one slice and one head, each with what its contract ensures, and what the typing book
+-- says of the list. Assumes nothing.
 use mathlib.Core.Path.{_≡_}
 use mathlib.Core.List.{List, [], _∷_}
 use Prim.Native.Nat.{ℕ, _<_}
@@ -50,16 +51,19 @@ module _ (T : Tables) (side : Side) where
   Run m [] = m ≡ m
   Run m (e ∷ es) = Ensured (e .call) m (e .answer) (e .after) × Run (e .after) es
 
-  -- the answer is the book's; after the call the head's length is the book's, the records below it are the book's, those from that length on are as before the call
+  -- the answer is the book's; after the call the head's length is the book's, the records below it are the book's,
+  -- those from that length on are as before the call
   pub record AsTheBook (book : List ℕ) (size : ℕ) (m : Lent) (e : Event) : Type 0 where
     pub answer : e .answer ≡ bookAnswer (dictionaryOf file) side size book (e .call)
     pub len : e .after .len ≡ length (bookAfter side size book (e .call))
     pub size-kept : length (e .after .states) ≡ size
     pub records : (i : ℕ) → i < length (bookAfter side size book (e .call))
-        → entryOf (getD (e .after .states) i noState) ≡ bookRecord (dictionaryOf file) side (bookAfter side size book (e .call)) i
+        → entryOf (getD (e .after .states) i noState)
+        ≡ bookRecord (dictionaryOf file) side (bookAfter side size book (e .call)) i
     pub beyond : drop (e .after .len) (e .after .states) ≡ drop (e .after .len) (m .states)
 
   -- the same of each call of the list, the book going on
   abbrev pub AllAsTheBook : List ℕ → ℕ → Lent → List Event → Type 0
   AllAsTheBook book size m [] = book ≡ book
-  AllAsTheBook book size m (e ∷ es) = AsTheBook book size m e × AllAsTheBook (bookAfter side size book (e .call)) size (e .after) es
+  AllAsTheBook book size m (e ∷ es) = AsTheBook book size m e × AllAsTheBook (bookAfter side size book (e .call)) size
+      (e .after) es

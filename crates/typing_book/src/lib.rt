@@ -1,4 +1,5 @@
-// What a list of typing calls gives is a statement over the contracts of those calls: definitions in specs/, the theorem in proofs/.
+// What a list of typing calls gives is a statement over the contracts of those calls: definitions in specs/, the
+// theorem in proofs/.
 ghost use mathlib.Core.Path.{_≡_};
 
 // The most bytes that can be typed.

@@ -1,5 +1,5 @@
-// `phrases type FILE`: standard input as a person types it. The typing calls over columns are used: those over a slice of records are the same
-// calls, and each function around them would need a long proof by hand.
+// `phrases type FILE`: standard input as a person types it. The typing calls over columns are used: those over a
+// slice of records are the same calls, and each function around them would need a long proof by hand.
 use causes::Answer;
 use tool_files::say_bursts;
 use tool_files::say_fields;
@@ -18,7 +18,8 @@ type Bytes = [u8; 4096];
 // Their codes, or their counts.
 type Table = [u32; 4096];
 
-// Where typing stands: the bytes typed and not taken back, the lines ended, the bytes of the line that is open, and the bytes that had no room.
+// Where typing stands: the bytes typed and not taken back, the lines ended, the bytes of the line that is open, and
+// the bytes that had no room.
 struct Typed {
     len: usize,
     lines: usize,
@@ -297,8 +298,8 @@ fn ends(each: bool, byte: u8) -> bool {
     false
 }
 
-// Reads and types until the input ends. A proved loop has to end, and nothing says that an input does: turns are counted down from a number that
-// no run uses up.
+// Reads and types until the input ends. A proved loop has to end, and nothing says that an input does: turns are
+// counted down from a number that no run uses up.
 fn type_input(
     file: &[u8],
     places: &[u32],

@@ -21,7 +21,8 @@ lastCount counts (suc i) = getD counts i 0
 module _ (T : Tables) (side : Typing.Side) (len size : ℕ) where
   open Tables T using (file)
 
-  -- whether the records below the length are in form: exact over tables that a build left, and where there are none; left free over other tables
+  -- whether the records below the length are in form: exact over tables that a build left, and where there are none;
+  -- left free over other tables
   pub record FormOf (bytes codes counts : List ℕ) (fine : Bool) : Type 0 where
     pub none-yet : len ≡ 0 → fine ≡ true
     pub built : (n : ℕ) → Built T n → headOut len size ≡ false
@@ -37,10 +38,12 @@ module _ (T : Tables) (side : Typing.Side) (len size : ℕ) where
   pub record ColumnsExtended (bytes codes counts typed bytes' codes' counts' : List ℕ) (number : ℕ) : Type 0 where
     pub number-is : number ≡ len + length typed
     pub bytes-are : (k : ℕ) → k < length typed → getD bytes' (len + k) 0 ≡ getD typed k 0
-    pub built : (n : ℕ) → Built T n → (k : ℕ) → k < length typed → Typed bytes codes counts typed bytes' codes' counts' k
+    pub built : (n : ℕ) → Built T n → (k : ℕ) → k < length typed
+        → Typed bytes codes counts typed bytes' codes' counts' k
 
   -- push and extend on columns; what is not said of the columns is scratch
-  pub record ExtendedColumns (bytes codes counts typed : List ℕ) (r : Answer) (bytes' codes' counts' : List ℕ) : Type 0 where
+  pub record ExtendedColumns (bytes codes counts typed : List ℕ) (r : Answer)
+      (bytes' codes' counts' : List ℕ) : Type 0 where
     pub fine : Bool
     pub form : FormOf bytes codes counts fine
     pub call : Call toNumber (extendRefusal T len size fine typed) noBuffer

@@ -1,5 +1,6 @@
-// Typing over columns, in both directions. Byte, code and count of each record stand in three buffers. Bytes stand in the order in which
-// they were typed; in prepending the text is read from a fourth buffer, `reading`, in which they stand from the end back.
+// Typing over columns, in both directions. Byte, code and count of each record stand in three buffers. Bytes stand in
+// the order in which they were typed; in prepending the text is read from a fourth buffer, `reading`, in which they
+// stand from the end back.
 ghost use mathlib.Core.Path.{_≡_};
 ghost use lib.ListN.{length};
 ghost use Rattle.built.specs.Built.{dictionaryOf};
@@ -218,7 +219,8 @@ pub fn records_in_form(
     true
 }
 
-// The code of the first i + 1 typed bytes, where `codes` has those of all shorter ones: the last code in appending, the first in prepending.
+// The code of the first i + 1 typed bytes, where `codes` has those of all shorter ones: the last code in appending,
+// the first in prepending.
 fn code_at(
     side: Side,
     file: &[u8],
@@ -308,7 +310,8 @@ pub fn extend_core(
     }
 }
 
-// Whether tables, head and records are in form, with the count of rows if they are; `reading` then has the bytes below the length.
+// Whether tables, head and records are in form, with the count of rows if they are; `reading` then has the bytes
+// below the length.
 fn columns_in_form(
     side: Side,
     file: &[u8],

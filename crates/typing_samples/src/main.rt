@@ -1,5 +1,5 @@
-// Typing and intervals over the phrase file E of document 01: its cases P4 to P7, and whole texts against `count`. A line on a whole text says
-// how many counts were compared and how many differed.
+// Typing and intervals over the phrase file E of document 01: its cases P4 to P7, and whole texts against `count`. A
+// line on a whole text says how many counts were compared and how many differed.
 mod intervals;
 mod said;
 mod texts;

@@ -215,8 +215,8 @@ fn type_piece(
     end
 }
 
-// Types a text in pieces of 1, 2, 3, .. bytes, as it is or with half of each piece taken back before the next one. The bytes typed so far
-// are kept in a book of our own.
+// Types a text in pieces of 1, 2, 3, .. bytes, as it is or with half of each piece taken back before the next one.
+// The bytes typed so far are kept in a book of our own.
 pub fn by_pieces(
     side: Side,
     file: &[u8],

@@ -5,7 +5,6 @@ use mathlib.Core.Bool.{Bool, true, false, _||_}
 use Prim.Native.Nat.{ℕ, zero, suc}
 use lib.ListN.{length, drop}
 use lib.Dec.{eqb}
-use Rattle.marks.specs.Layout.{areaSize}
 use Rattle.fnv.specs.Fnv.{rowHash}
 use Rattle.placed_rows.specs.Rows.{row}
 
@@ -35,4 +34,4 @@ hashes file places n factor i = rowHash (row file places n i) factor
 pub record ClashFound (file places : List ℕ) (n factor : ℕ) (entry exit : List ℕ) (r : ℕ) : Type 0 where
   pub answer : r ≡ firstClash (hashes file places n factor) n
   pub kept : length exit ≡ length entry
-  pub beyond : drop areaSize exit ≡ drop areaSize entry
+  pub beyond : drop 16384 exit ≡ drop 16384 entry

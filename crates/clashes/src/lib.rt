@@ -2,7 +2,6 @@
 ghost use mathlib.Core.Path.{_≡_};
 ghost use Prim.Native.Nat.{_%_, _<_, _≤_};
 ghost use lib.ListN.{length};
-ghost use Rattle.marks.specs.Layout.{areaSize};
 ghost use Rattle.placed_rows.specs.Rows.{Placed};
 ghost use Rattle.placed_rows.specs.Texts.{Small};
 ghost use Rattle.clashes.specs.Clashes.{ClashFound};
@@ -28,7 +27,7 @@ fn bucket(hash: u32) -> usize
 
 // Empties all buckets.
 fn empty(scratch: &mut [u32])
-    requires { ⌜ areaSize ≤ length (now scratch) ⌝ }
+    requires { ⌜ 16384 ≤ length (now scratch) ⌝ }
     ensures { λ r. ⌜ now (scratch .exit) ≡ emptied (now (scratch .entry)) 4096 ⌝ }
 {
     let mut i = 0;
@@ -40,7 +39,7 @@ fn empty(scratch: &mut [u32])
 
 // Does one of the first `rows` rows have this hash? A link goes to a lower row, so the walk ends.
 fn has(scratch: &[u32], rows: usize, hash: u32) -> bool
-    requires { ⌜ areaSize ≤ length (now scratch) ⌝ }
+    requires { ⌜ 16384 ≤ length (now scratch) ⌝ }
     requires { ⌜ rows ≤ 4096 ⌝ }
     ensures { λ r. ⌜ r ≡ listed (now (scratch .entry)) hash rows (head (now (scratch .entry)) hash) ⌝ }
 {
@@ -58,7 +57,7 @@ fn has(scratch: &[u32], rows: usize, hash: u32) -> bool
 
 // Puts the row at the front of the bucket of its hash.
 fn push(scratch: &mut [u32], row: usize, hash: u32)
-    requires { ⌜ areaSize ≤ length (now scratch) ⌝ }
+    requires { ⌜ 16384 ≤ length (now scratch) ⌝ }
     requires { ⌜ row < 4096 ⌝ }
     ensures { λ r. ⌜ now (scratch .exit) ≡ pushed (now (scratch .entry)) row hash ⌝ }
 {
@@ -72,7 +71,7 @@ fn push(scratch: &mut [u32], row: usize, hash: u32)
 // The lowest row with the hash of an earlier row, n where there is none.
 pub fn first_clash(file: &[u8], places: &[u32], n: usize, factor: u64, scratch: &mut [u32]) -> usize
     requires { ⌜ Placed (now file) (now places) n ⌝ }
-    requires { ⌜ areaSize ≤ length (now scratch) ⌝ }
+    requires { ⌜ 16384 ≤ length (now scratch) ⌝ }
     ensures { λ r. ⌜ ClashFound (now (file .entry)) (now (places .entry)) n factor (now (scratch .entry))
         (now (scratch .exit)) r ⌝ }
 {

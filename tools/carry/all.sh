@@ -8,16 +8,16 @@ room=target/carry
 
 # what the tools write, of the crates in a folder
 made() {
-    (cd "$1" && find typing/proofs exports/proofs -type f \( -path '*/Proof/Lts.antt' -o -path '*/Proof/Tie.antt' \
+    (cd "$1" && find typing/proofs nahypora/proofs -type f \( -path '*/Proof/Lts.antt' -o -path '*/Proof/Tie.antt' \
         -o -path '*/Carried/*' -o -name Carried.antt -o -name '*Kit.antt' \) | LC_ALL=C sort)
 }
 
-sh tools/prove.sh typing_core interval_count decoder pair_check dictionary byte_pair_encoding
+sh tools/prove.sh typing_columns interval_count decoder dictionary byte_pair_encoding
 rm -rf $room
 mkdir -p $room/crates
 cp crates.txt $room/
 for crate in crates/*; do ln -s "$top/$crate" "$room/$crate"; done
-for crate in typing exports; do
+for crate in typing nahypora; do
     rm $room/crates/$crate
     cp -R crates/$crate $room/crates/$crate
 done
@@ -27,7 +27,7 @@ cd $room
 echo "carrying the calls of typing ..."
 sh "$top/tools/carry/carry.sh" typing copy_out store_all truncate token_count extend push type_text
 echo "carrying the exported calls ..."
-sh "$top/tools/carry/carry_over.sh" exports typing typing_calls/bpe_push typing_calls/bpe_extend typing_calls/bpe_truncate \
+sh "$top/tools/carry/carry_over.sh" nahypora typing typing_calls/bpe_push typing_calls/bpe_extend typing_calls/bpe_truncate \
     typing_calls/bpe_token_count
 rt fmt > /dev/null
 cd "$top"

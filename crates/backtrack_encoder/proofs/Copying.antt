@@ -7,7 +7,7 @@ use native.Mathlib.Omega.{arith}
 use lib.ListN.{length, length-append, length-drop, getD, take, drop, set, List·getD-append}
 use lib.Seq.{take-suc, drop-cons, length-take-le, set-at, append-snoc, drop-at, getD-take}
 use Rattle.theory.specs.Merge.{encode}
-use Rattle.built.specs.Built.{Built, dictionaryOf}
+use Rattle.built_tables.specs.Built.{Built, dictionaryOf}
 use Rattle.backtrack_encoder.specs.Answers.{OutputReady, Backtracked, EncodedInto}
 use Rattle.backtrack_encoder.proofs.Running.{codes-count}
 use Rattle.tables.specs.Tables.{Tables, tables}

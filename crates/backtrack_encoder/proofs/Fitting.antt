@@ -12,9 +12,9 @@ use Rattle.placed_rows.specs.Texts.{Small}
 use Rattle.tables.specs.Tables.{PairTables, withPrefixes}
 use Rattle.tables.specs.Ready.{PartsReady}
 use Rattle.bitfield.specs.Bits.{isSet}
-use Rattle.token_pair.specs.Pair.{PairReady, PassIs}
-use Rattle.built.specs.Built.{dictionaryOf}
-use Rattle.built.proofs.Rows.{pass-is}
+use Rattle.pair_check.specs.Pair.{PairReady, PassIs}
+use Rattle.built_tables.specs.Built.{dictionaryOf}
+use Rattle.built_tables.proofs.Rows.{pass-is}
 use Rattle.backtrack_encoder.specs.declared.BacktrackEncoder.{BacktrackEncoder}
 use Rattle.backtrack_encoder.specs.Encoder.{RowsReady, stackOf, EncoderReady, Shows}
 use Rattle.backtrack_encoder.specs.Steps.{EndsIn, FitsIs}
@@ -43,7 +43,7 @@ pair-ready P n text e work c T S R h some = record {
 }
 
 -- row c, as an index w, has l bytes as they are read
-module _ (P : PairTables) (n : ℕ) (text : List ℕ) (e : BacktrackEncoder) (work dead : List ℕ) (c w l : ℕ)
+module _ (P : PairTables) (n : ℕ) (text : List ℕ) (e : BacktrackEncoder) (work alive : List ℕ) (c w l : ℕ)
     (T : RowsReady (P .file) (P .places) (P .area) n text work) (R : EncoderReady (P .file) n text e work) (h : c < n)
     (W : Small c 4294967296 w) (S : Small (length (row (P .file) (P .places) n w)) 256 l) where
   open PairTables P using (file, places)
@@ -52,25 +52,25 @@ module _ (P : PairTables) (n : ℕ) (text : List ℕ) (e : BacktrackEncoder) (wo
   length-read = read-length file places n (T .places-ready) c w l h W S
 
   -- its end behind a stack
-  end-place : (s : State) → Shows (dictionaryOf file) text e work dead s → e .pos + l ≡ place (dictionaryOf file) (c ∷ s .stack)
+  end-place : (s : State) → Shows (dictionaryOf file) text e work alive s → e .pos + l ≡ place (dictionaryOf file) (c ∷ s .stack)
   end-place s v = let p : e .pos ≡ place (dictionaryOf file) (s .stack) = R .reached ∙ ap (place (dictionaryOf file)) (sym (v .stack)) in omega (arith, p, length-read)
 
   -- whether that is dead
-  end-bit : (s : State) → Shows (dictionaryOf file) text e work dead s → e .pos + l ≤ length text
-      → isSet dead (e .pos + l) ≡ not (s .dead (place (dictionaryOf file) (c ∷ s .stack)))
-  end-bit s v i = v .alive (e .pos + l) i ∙ ap (λ (p : ℕ). not (s .dead p)) (end-place s v)
+  end-bit : (s : State) → Shows (dictionaryOf file) text e work alive s → e .pos + l ≤ length text
+      → isSet alive (e .pos + l) ≡ not (s .dead (place (dictionaryOf file) (c ∷ s .stack)))
+  end-bit s v i = v .bits (e .pos + l) i ∙ ap (λ (p : ℕ). not (s .dead p)) (end-place s v)
 
   ends : e .pos + l ≤ length text → EndsIn file text e c
   ends i = omega (arith, length-read)
 
-  pub fits-outside : length text < e .pos + l → FitsIs P n text e work dead c false
+  pub fits-outside : length text < e .pos + l → FitsIs P n text e work alive c false
   fits-outside o = record { ends = λ f. absurd (true-false (sym f)); built = λ prefixes B s v i. absurd (omega (arith, length-read)) }
 
-  pub fits-dead : e .pos + l ≤ length text → isSet dead (e .pos + l) ≡ false → FitsIs P n text e work dead c false
+  pub fits-dead : e .pos + l ≤ length text → isSet alive (e .pos + l) ≡ false → FitsIs P n text e work alive c false
   fits-dead i d = record { ends = λ _. ends i; built = λ prefixes B s v _. and-false (follows (dictionaryOf file) (s .stack) c) _ (sym (end-bit s v i) ∙ d) }
 
   -- it is the first code
-  pub fits-alone : e .pos + l ≤ length text → isSet dead (e .pos + l) ≡ true → e .count ≡ 0 → FitsIs P n text e work dead c true
+  pub fits-alone : e .pos + l ≤ length text → isSet alive (e .pos + l) ≡ true → e .count ≡ 0 → FitsIs P n text e work alive c true
   fits-alone i d z = record {
     ends = λ _. ends i;
     built = λ prefixes B s v _.
@@ -80,8 +80,8 @@ module _ (P : PairTables) (n : ℕ) (text : List ℕ) (e : BacktrackEncoder) (wo
   }
 
   -- there is a code before it
-  pub fits-pair : (r : Bool) → e .pos + l ≤ length text → isSet dead (e .pos + l) ≡ true → (e .count ≡ 0 → ⊥) → PassIs P n n (getD work (e .count - 1) 0) c r
-      → FitsIs P n text e work dead c r
+  pub fits-pair : (r : Bool) → e .pos + l ≤ length text → isSet alive (e .pos + l) ≡ true → (e .count ≡ 0 → ⊥) → PassIs P n n (getD work (e .count - 1) 0) c r
+      → FitsIs P n text e work alive c r
   fits-pair r i d some p = record {
     ends = λ _. ends i;
     built = λ prefixes B s v _.

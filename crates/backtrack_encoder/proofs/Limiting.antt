@@ -9,11 +9,10 @@ use native.Mathlib.Omega.{arith}
 use lib.ListN.{length}
 use lib.Dec.{ltb}
 use borrow.Author.Tests.{lt-ltb, le-ltb}
-use Rattle.theory.specs.Dictionary.{Dictionary}
+use Rattle.theory.specs.Dictionary.{Dictionary, none}
 use Rattle.theory.specs.Backtracking.{State, step, start, finished, run, over, counted, buffered, final, runLimited, countTillLimit}
 use Rattle.theory.proofs.Lists.{true-false}
-use Rattle.placed_rows.specs.Rows.{none}
-use Rattle.built.specs.Built.{Built, dictionaryOf}
+use Rattle.built_tables.specs.Built.{Built, dictionaryOf}
 use Rattle.backtrack_encoder.specs.declared.BacktrackEncoder.{BacktrackEncoder}
 use Rattle.backtrack_encoder.specs.declared.Limited.{Limited}
 use Rattle.backtrack_encoder.specs.declared.Limited.the-variants.{Over}
@@ -74,25 +73,25 @@ module _ (T : Tables) (n : ℕ) (text entry : List ℕ) (limit : ℕ) where
   D = dictionaryOf file
 
   abbrev U : ℕ → BacktrackEncoder → List ℕ → List ℕ → Type 0
-  U left e work dead = Running T n text entry left e work dead
+  U left e work alive = Running T n text entry left e work alive
 
   -- the state with so many steps left
   abbrev state : ℕ → State
   state left = run D text (done T n text entry left) (start D text)
 
   -- the steps that are left decide the answer
-  pub record Limiting (left : ℕ) (e : BacktrackEncoder) (work dead : List ℕ) : Type 0 where
-    pub running : U left e work dead
+  pub record Limiting (left : ℕ) (e : BacktrackEncoder) (work alive : List ℕ) : Type 0 where
+    pub running : U left e work alive
     pub answer : Built T n → runLimited D text limit left (state left) ≡ countTillLimit D text limit
 
-  pub limiting-start : (e : BacktrackEncoder) (dead : List ℕ) → U (2 * length text) e entry dead → Limiting (2 * length text) e entry dead
+  pub limiting-start : (e : BacktrackEncoder) (alive : List ℕ) → U (2 * length text) e entry alive → Limiting (2 * length text) e entry alive
   unfolding countTillLimit
-  limiting-start e dead u = record {
+  limiting-start e alive u = record {
     running = u;
     answer = λ B. let z : 2 * length text - 2 * length text ≡ 0 = omega arith in ap (λ (k : ℕ). runLimited D text limit (2 * length text) (run D text k (start D text))) z;
   }
 
-  module _ (left : ℕ) (e : BacktrackEncoder) (work dead : List ℕ) (W : Limiting left e work dead) where
+  module _ (left : ℕ) (e : BacktrackEncoder) (work alive : List ℕ) (W : Limiting left e work alive) where
     -- the number of codes of the state
     count-is : Built T n → length (state left .stack) ≡ e .count
     count-is B = ap length (W .running .shows B .stack) ∙ stack-length work (e .count)
@@ -104,7 +103,7 @@ module _ (T : Tables) (n : ℕ) (text entry : List ℕ) (limit : ℕ) where
       few = λ k c.
           let q = final-counted D text limit (e .count) k (sym (f D text) ∙ c) in
           let j = q .0 in
-          let h = running-few T n text entry left e work dead (W .running) in
+          let h = running-few T n text entry left e work alive (W .running) in
           (omega arith, q .1);
       work-length = W .running .kept;
       work-beyond = W .running .beyond;
@@ -114,16 +113,16 @@ module _ (T : Tables) (n : ℕ) (text entry : List ℕ) (limit : ℕ) where
         all : Built T n → runLimited D text limit left (state left) ≡ final D text limit (length (state left .stack))
         all B = ⊎-elim
             (λ z. ap (λ (k : ℕ). runLimited D text limit k (state left)) z)
-            (λ z. limited-end D text limit left (state left) (shows-end D text e work dead (state left) (W .running .shows B) z))
+            (λ z. limited-end D text limit left (state left) (shows-end D text e work alive (state left) (W .running .shows B) z))
             o
 
-    module _ (some : 0 < left) (z : e .next ≡ none → ⊥) (r : BacktrackEncoder) (work' dead' : List ℕ)
-        (K : Stepped T n text e work dead r work' dead') where
-      next : U (left - 1) r work' dead'
-      next = running-step T n text entry left e work dead (W .running) r work' dead' some K
+    module _ (some : 0 < left) (z : e .next ≡ none → ⊥) (r : BacktrackEncoder) (work' alive' : List ℕ)
+        (K : Stepped T n text e work alive r work' alive') where
+      next : U (left - 1) r work' alive'
+      next = running-step T n text entry left e work alive (W .running) r work' alive' some K
 
       unfinished : Built T n → finished D text (state left) ≡ false
-      unfinished B = shows-more D text e work dead (state left) (W .running .shows B) z
+      unfinished B = shows-more D text e work alive (state left) (W .running .shows B) z
 
       stepped : Built T n → state (left - 1) ≡ step D text (state left)
       stepped B =
@@ -141,7 +140,7 @@ module _ (T : Tables) (n : ℕ) (text entry : List ℕ) (limit : ℕ) where
         work-length = next .kept;
         work-beyond = next .beyond;
         built = λ B.
-            let f : finished D text (state (left - 1)) ≡ false = shows-more D text r work' dead' (state (left - 1)) (next .shows B) y in
+            let f : finished D text (state (left - 1)) ≡ false = shows-more D text r work' alive' (state (left - 1)) (next .shows B) y in
             let c : length (state (left - 1) .stack) ≡ r .count = ap length (next .shows B .stack) ∙ stack-length work' (r .count) in
             let p : passed D text limit (state (left - 1)) ≡ true = rw (f, c, lt-ltb (buffered D text limit) (r .count) h) in
             sym (ap (λ (j : ℕ). runLimited D text limit j (state left)) one-less ∙ limited-over D text limit (left - 1) (state left) (unfinished B) (rw (stepped B) at p))
@@ -149,7 +148,7 @@ module _ (T : Tables) (n : ℕ) (text entry : List ℕ) (limit : ℕ) where
       }
 
       -- or not
-      pub limiting-next : (r .next ≡ none) ⊎ (r .count ≤ buffered D text limit) → Limiting (left - 1) r work' dead'
+      pub limiting-next : (r .next ≡ none) ⊎ (r .count ≤ buffered D text limit) → Limiting (left - 1) r work' alive'
       limiting-next o = record {
         running = next;
         answer = λ B.
@@ -157,7 +156,7 @@ module _ (T : Tables) (n : ℕ) (text entry : List ℕ) (limit : ℕ) where
             let p : passed D text limit (state (left - 1)) ≡ false =
             and-false (not (finished D text (state (left - 1)))) (ltb (buffered D text limit) (length (state (left - 1) .stack)))
             (⊎-elim
-            (λ y. inl (ap not (shows-end D text r work' dead' (state (left - 1)) (next .shows B) y)))
+            (λ y. inl (ap not (shows-end D text r work' alive' (state (left - 1)) (next .shows B) y)))
             (λ h. inr (rw c (le-ltb (buffered D text limit) (r .count) h)))
             o) in
             ap (runLimited D text limit (left - 1)) (stepped B)

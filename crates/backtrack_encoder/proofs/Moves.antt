@@ -11,14 +11,15 @@ use lib.Seq.{getD-set-same, getD-set-other, drop-set-lt}
 use lib.Dec.{eqb}
 use Rattle.theory.specs.Parts.{rowsAt}
 use Rattle.theory.specs.Backtracking.{State, mark, place}
-use Rattle.placed_rows.specs.Rows.{none, row}
+use Rattle.theory.specs.Dictionary.{none}
+use Rattle.placed_rows.specs.Rows.{row}
 use Rattle.placed_rows.specs.Texts.{Small}
 use Rattle.bitfield.specs.Bits.{isSet, without}
 use Rattle.bitfield.proofs.Sets.{all-below}
 use Rattle.tables.specs.Tables.{tables}
 use Rattle.tables.specs.Ready.{PlacesReady}
 use Rattle.search_area.specs.Answers.{NextMatch}
-use Rattle.built.specs.Built.{dictionaryOf}
+use Rattle.built_tables.specs.Built.{dictionaryOf}
 use Rattle.backtrack_encoder.specs.declared.BacktrackEncoder.{BacktrackEncoder}
 use Rattle.backtrack_encoder.specs.Encoder.{RowsReady, stackOf, EncoderReady, Shows}
 use Rattle.backtrack_encoder.specs.Steps.{EndsIn, Started, Added, TakenBack}
@@ -36,10 +37,10 @@ move-start file places area n text r l P short b m = record {
     inside = omega arith;
     next = next-bound file places n area text r l m;
   };
-  built = λ lefts rights prefixes B work dead e. record {
+  built = λ lefts rights prefixes B work alive e. record {
     stack = sym (stack-nil work);
     next = next-tried (tables file places lefts rights prefixes area) n B P text r l (bytes-drop 0 text b) m;
-    alive = λ p h. ap (λ (f : ℕ → Bool). f p) e ∙ all-below p (omega arith);
+    bits = λ p h. ap (λ (f : ℕ → Bool). f p) e ∙ all-below p (omega arith);
   };
 }
 
@@ -70,14 +71,14 @@ module _ (file places area : List ℕ) (n : ℕ) (text : List ℕ) (e : Backtrac
     };
     work-length = length-set work (e .count) c;
     work-beyond = drop-set-lt (length text) work (e .count) c add-room;
-    built = λ lefts rights prefixes B s dead v.
+    built = λ lefts rights prefixes B s alive v.
         let p : place (dictionaryOf file) (c ∷ s .stack) ≡ e .pos + l =
         ap (λ (x : ℕ). x + length (dictionaryOf file .bytes c)) (ap (place (dictionaryOf file)) (v .stack) ∙ sym (R .reached)) ∙ ap (λ (x : ℕ). e .pos + x) (sym length-read) in
         record {
           stack = ap (λ (K : List ℕ). c ∷ K) (v .stack) ∙ sym pushed;
           next = ap (λ (x : ℕ). rowsAt (dictionaryOf file) (drop x text)) p
               ∙ next-tried (tables file places lefts rights prefixes area) n B (T .places-ready) (drop (e .pos + l) text) r k (bytes-drop (e .pos + l) text b) m;
-          alive = v .alive;
+          bits = v .bits;
         };
   }
     where
@@ -97,22 +98,22 @@ pub mark-bit : (bits : ℕ → Bool) (dead : ℕ → Bool) (i p : ℕ) → bits 
 unfolding without
 mark-bit bits dead i p e = ap (λ (b : Bool). not (eqb p i) && b) e ∙ not-or (eqb p i) (dead p)
 
-module _ (file places : List ℕ) (n : ℕ) (text : List ℕ) (e : BacktrackEncoder) (work dead dead' : List ℕ) (P : PlacesReady file places n)
-    (R : EncoderReady file n text e work) (cleared : isSet dead' ≡ without (isSet dead) (e .pos)) where
-  alive : (s : State) → Shows (dictionaryOf file) text e work dead s → (p : ℕ) → p ≤ length text → isSet dead' p ≡ not (mark (s .dead) (place (dictionaryOf file) (s .stack)) p)
-  alive s v p h =
+module _ (file places : List ℕ) (n : ℕ) (text : List ℕ) (e : BacktrackEncoder) (work alive alive' : List ℕ) (P : PlacesReady file places n)
+    (R : EncoderReady file n text e work) (cleared : isSet alive' ≡ without (isSet alive) (e .pos)) where
+  still-alive : (s : State) → Shows (dictionaryOf file) text e work alive s → (p : ℕ) → p ≤ length text → isSet alive' p ≡ not (mark (s .dead) (place (dictionaryOf file) (s .stack)) p)
+  still-alive s v p h =
       ap (λ (f : ℕ → Bool). f p) cleared
-      ∙ mark-bit (isSet dead) (s .dead) (e .pos) p (v .alive p h)
+      ∙ mark-bit (isSet alive) (s .dead) (e .pos) p (v .bits p h)
       ∙ ap (λ (i : ℕ). not (mark (s .dead) i p)) (R .reached ∙ ap (place (dictionaryOf file)) (sym (v .stack)))
 
   -- there is no code to take back
-  pub back-none : e .count ≡ 0 → TakenBack file n text e work dead (record { count = 0; pos = 0; next = none }) dead'
+  pub back-none : e .count ≡ 0 → TakenBack file n text e work alive (record { count = 0; pos = 0; next = none }) alive'
   back-none z = record {
     ready = record { codes = λ i h. absurd (omega arith); reached = sym (ap (place (dictionaryOf file)) (stack-nil work)); inside = omega arith; next = inl refl };
     state = λ s v.
         let k : s .stack ≡ [] = v .stack ∙ ap (stackOf work) z ∙ stack-nil work in
-        let a : (p : ℕ) → p ≤ length text → isSet dead' p ≡ not (mark (s .dead) (place (dictionaryOf file) (s .stack)) p) = alive s v in
-        rw k (record { stack = sym (stack-nil work); next = sym (try-none (dictionaryOf file)); alive = rw k at a });
+        let a : (p : ℕ) → p ≤ length text → isSet alive' p ≡ not (mark (s .dead) (place (dictionaryOf file) (s .stack)) p) = still-alive s v in
+        rw k (record { stack = sym (stack-nil work); next = sym (try-none (dictionaryOf file)); bits = rw k at a });
   }
 
   -- the last code x, as an index w, of l bytes is taken back
@@ -135,7 +136,7 @@ module _ (file places : List ℕ) (n : ℕ) (text : List ℕ) (e : BacktrackEnco
     pub back-pos : l ≤ e .pos
     back-pos = omega (arith, whole)
 
-    pub back-last : TakenBack file n text e work dead (record { count = e .count - 1; pos = e .pos - l; next = x }) dead'
+    pub back-last : TakenBack file n text e work alive (record { count = e .count - 1; pos = e .pos - l; next = x }) alive'
     back-last = record {
       ready = record {
         codes = λ i h. R .codes i (omega arith);
@@ -145,6 +146,6 @@ module _ (file places : List ℕ) (n : ℕ) (text : List ℕ) (e : BacktrackEnco
       };
       state = λ s v.
           let k : s .stack ≡ x ∷ stackOf work (e .count - 1) = v .stack ∙ last in
-          let a : (p : ℕ) → p ≤ length text → isSet dead' p ≡ not (mark (s .dead) (place (dictionaryOf file) (s .stack)) p) = alive s v in
-          rw k (record { stack = refl; next = sym (try-row (dictionaryOf file) x (not-none file places n P x below)); alive = rw k at a });
+          let a : (p : ℕ) → p ≤ length text → isSet alive' p ≡ not (mark (s .dead) (place (dictionaryOf file) (s .stack)) p) = still-alive s v in
+          rw k (record { stack = refl; next = sym (try-row (dictionaryOf file) x (not-none file places n P x below)); bits = rw k at a });
     }

@@ -7,15 +7,14 @@ use native.Mathlib.Decide.{decLt}
 use native.Mathlib.Omega.{arith}
 use lib.ListN.{length, getD, drop}
 use lib.Seq.{getD-drop}
-use Rattle.theory.specs.Dictionary.{Octets}
+use Rattle.theory.specs.Dictionary.{Octets, none}
 use Rattle.theory.specs.Parts.{rowsAt}
-use Rattle.placed_rows.specs.Rows.{none}
 use Rattle.tables.specs.Tables.{Tables}
 use Rattle.tables.specs.Ready.{PlacesReady}
 use Rattle.search_area.specs.Answers.{NextMatch}
-use Rattle.built.specs.Built.{Built, dictionaryOf}
-use Rattle.built.proofs.Rows.{octets}
-use Rattle.built.proofs.Lookups.{next-is, next-none}
+use Rattle.built_tables.specs.Built.{Built, dictionaryOf}
+use Rattle.built_tables.proofs.Rows.{octets}
+use Rattle.built_tables.proofs.Lookups.{next-is, next-none}
 use Rattle.backtrack_encoder.specs.Encoder.{toTry}
 use Rattle.backtrack_encoder.proofs.Stack.{try-none, try-row}
 use Rattle.backtrack_encoder.proofs.Sizes.{not-none}

@@ -6,14 +6,13 @@ use Prim.Native.Nat.{ℕ, suc, _-_, _*_, _≤_, _<_}
 use native.Mathlib.Omega.{arith}
 use lib.ListN.{length, drop}
 use lib.Seq.{length-take-le}
-use Rattle.theory.specs.Dictionary.{Dictionary}
+use Rattle.theory.specs.Dictionary.{Dictionary, none}
 use Rattle.theory.specs.Merge.{encode}
 use Rattle.theory.specs.Backtracking.{codes, start, run}
 use Rattle.theory.proofs.Backtracking.{going-end, run-codes}
-use Rattle.placed_rows.specs.Rows.{none}
 use Rattle.bitfield.specs.Bits.{isSet, allSet}
-use Rattle.built.specs.Built.{Built, dictionaryOf}
-use Rattle.built.proofs.Rows.{octets, lawful-is, known}
+use Rattle.built_tables.specs.Built.{Built, dictionaryOf}
+use Rattle.built_tables.proofs.Rows.{octets, lawful-is, known}
 use Rattle.backtrack_encoder.specs.declared.BacktrackEncoder.{BacktrackEncoder}
 use Rattle.backtrack_encoder.specs.Encoder.{TextReady, EncoderReady, Shows}
 use Rattle.backtrack_encoder.specs.Steps.{Started, Stepped}
@@ -35,17 +34,17 @@ module _ (T : Tables) (n : ℕ) (text entry : List ℕ) where
   done left = 2 * length text - left
 
   -- what is known with so many steps left; `entry` is the work buffer at the start
-  pub record Running (left : ℕ) (e : BacktrackEncoder) (work dead : List ℕ) : Type 0 where
+  pub record Running (left : ℕ) (e : BacktrackEncoder) (work alive : List ℕ) : Type 0 where
     pub text-ready : TextReady T n text work
     pub ready : EncoderReady file n text e work
     pub kept : length work ≡ length entry
     pub beyond : drop (length text) work ≡ drop (length text) entry
     pub steps : left ≤ 2 * length text
-    pub shows : Built T n → Shows D text e work dead (run D text (done left) (start D text))
+    pub shows : Built T n → Shows D text e work alive (run D text (done left) (start D text))
 
-  pub running-start : (e : BacktrackEncoder) (dead : List ℕ) → TextReady T n text entry
-      → Started file places area n text e → isSet dead ≡ allSet → Running (2 * length text) e entry dead
-  running-start e dead Q S a = record {
+  pub running-start : (e : BacktrackEncoder) (alive : List ℕ) → TextReady T n text entry
+      → Started file places area n text e → isSet alive ≡ allSet → Running (2 * length text) e entry alive
+  running-start e alive Q S a = record {
     text-ready = Q;
     ready = S .ready entry;
     kept = refl;
@@ -53,14 +52,14 @@ module _ (T : Tables) (n : ℕ) (text entry : List ℕ) where
     steps = omega arith;
     shows = λ B.
         let z : done (2 * length text) ≡ 0 = omega arith in
-        let v : Shows D text e entry dead (run D text 0 (start D text)) = S .built lefts rights prefixes B entry dead a in
+        let v : Shows D text e entry alive (run D text 0 (start D text)) = S .built lefts rights prefixes B entry alive a in
         rw z v;
   }
 
-  module _ (left : ℕ) (e : BacktrackEncoder) (work dead : List ℕ) (U : Running left e work dead) where
-    pub running-step : (r : BacktrackEncoder) (work' dead' : List ℕ) → 0 < left
-        → Stepped T n text e work dead r work' dead' → Running (left - 1) r work' dead'
-    running-step r work' dead' some K = record {
+  module _ (left : ℕ) (e : BacktrackEncoder) (work alive : List ℕ) (U : Running left e work alive) where
+    pub running-step : (r : BacktrackEncoder) (work' alive' : List ℕ) → 0 < left
+        → Stepped T n text e work alive r work' alive' → Running (left - 1) r work' alive'
+    running-step r work' alive' some K = record {
       text-ready = record { tables = U .text-ready .tables; short = U .text-ready .short; room = let q = U .text-ready .room in let l = K .work-length in omega arith };
       ready = K .ready;
       kept = K .work-length ∙ U .kept;
@@ -90,7 +89,7 @@ module _ (T : Tables) (n : ℕ) (text entry : List ℕ) where
         all B = ⊎-elim
             (λ z. let q = U .steps in run-codes D (lawful-is T n B) text (known T n B text (octets text b)) (done left) (omega arith))
             (λ z. going-end D text (run D text (done left) (start D text)) (on-the-way T n text B b (done left))
-            (shows-end D text e work dead (run D text (done left) (start D text)) (U .shows B) z))
+            (shows-end D text e work alive (run D text (done left) (start D text)) (U .shows B) z))
             o
 
 -- the number of codes

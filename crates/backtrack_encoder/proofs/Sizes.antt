@@ -8,11 +8,12 @@ use lib.ListN.{length, getD, List·getD-eq-default}
 use Rattle.theory.specs.Parts.{dictionary}
 use Rattle.theory.proofs.Places.{stack-place}
 use Rattle.phrase_file.specs.Form.{rows}
-use Rattle.placed_rows.specs.Rows.{none, row}
+use Rattle.theory.specs.Dictionary.{none}
+use Rattle.placed_rows.specs.Rows.{row}
 use Rattle.placed_rows.specs.Texts.{Small}
 use Rattle.tables.specs.Tables.{Tables}
 use Rattle.tables.specs.Ready.{PlacesReady}
-use Rattle.built.specs.Built.{dictionaryOf}
+use Rattle.built_tables.specs.Built.{dictionaryOf}
 use Rattle.backtrack_encoder.specs.declared.BacktrackEncoder.{BacktrackEncoder}
 use Rattle.backtrack_encoder.specs.Encoder.{TextReady, RowsReady, stackOf, EncoderReady}
 use Rattle.backtrack_encoder.specs.Steps.{EndsIn}

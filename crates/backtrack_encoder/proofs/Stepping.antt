@@ -6,13 +6,12 @@ use mathlib.Core.Bool.{Bool, true, false}
 use Prim.Native.Nat.{ℕ, zero, suc, _<_}
 use native.Mathlib.Omega.{arith}
 use lib.ListN.{length-drop}
-use Rattle.theory.specs.Dictionary.{Dictionary}
+use Rattle.theory.specs.Dictionary.{Dictionary, none}
 use Rattle.theory.specs.Backtracking.{State, place, firstFit, step, start, isNil, finished, run}
 use Rattle.theory.proofs.RowsAt.{In}
 use Rattle.theory.proofs.Backtracking.{Going, going-start, going-run, step-add, step-back}
-use Rattle.placed_rows.specs.Rows.{none}
-use Rattle.built.specs.Built.{Built, dictionaryOf}
-use Rattle.built.proofs.Rows.{octets, lawful-is, known}
+use Rattle.built_tables.specs.Built.{Built, dictionaryOf}
+use Rattle.built_tables.proofs.Rows.{octets, lawful-is, known}
 use Rattle.backtrack_encoder.specs.declared.BacktrackEncoder.{BacktrackEncoder}
 use Rattle.backtrack_encoder.specs.Encoder.{toTry, EncoderReady, Shows}
 use Rattle.backtrack_encoder.specs.Steps.{EndsIn, rowOr, FirstFitIs, Added, TakenBack, Stepped}
@@ -46,7 +45,7 @@ module _ (D : Dictionary) (text : List ℕ) where
     run-more e = run-last k s ∙ run-next 0 (run D text k s) e
 
   -- whether anything is left to try
-  module _ (e : BacktrackEncoder) (work dead : List ℕ) (s : State) (v : Shows D text e work dead s) where
+  module _ (e : BacktrackEncoder) (work alive : List ℕ) (s : State) (v : Shows D text e work alive s) where
     pub shows-end : e .next ≡ none → finished D text s ≡ true
     shows-end z = ap (isNil D text) (v .next ∙ ap (toTry D) z ∙ try-none D)
 
@@ -66,23 +65,23 @@ module _ (T : Tables) (n : ℕ) (text : List ℕ) where
       let q = known T n B text (octets text b) in
       going-run D L text q k (start D text) (going-start D L text q)
 
-  module _ (e : BacktrackEncoder) (work dead : List ℕ) where
+  module _ (e : BacktrackEncoder) (work alive : List ℕ) where
     -- nothing is left to try
-    pub step-none : EncoderReady file n text e work → e .next ≡ none → Stepped T n text e work dead e work dead
+    pub step-none : EncoderReady file n text e work → e .next ≡ none → Stepped T n text e work alive e work alive
     step-none R z = record {
       ready = R;
       work-length = refl;
       work-beyond = refl;
-      built = λ B k v. rw (run-end D text k (start D text) (shows-end D text e work dead (run D text k (start D text)) v z)) v;
+      built = λ B k v. rw (run-end D text k (start D text) (shows-end D text e work alive (run D text k (start D text)) v z)) v;
     }
 
-    module _ (R : EncoderReady file n text e work) (b : Bytes text) (z : e .next ≡ none → ⊥) (c : ℕ) (F : FirstFitIs T n text e work dead c) where
-      module _ (B : Built T n) (k : ℕ) (v : Shows D text e work dead (run D text k (start D text))) where
+    module _ (R : EncoderReady file n text e work) (b : Bytes text) (z : e .next ≡ none → ⊥) (c : ℕ) (F : FirstFitIs T n text e work alive c) where
+      module _ (B : Built T n) (k : ℕ) (v : Shows D text e work alive (run D text k (start D text))) where
         abbrev s : State
         s = run D text k (start D text)
 
         more : run D text (suc k) (start D text) ≡ step D text s
-        more = run-more D text k (start D text) (shows-more D text e work dead s v z)
+        more = run-more D text k (start D text) (shows-more D text e work alive s v z)
 
         -- the next row begins the text behind the codes
         ends : EndsIn file text e (e .next)
@@ -96,9 +95,9 @@ module _ (T : Tables) (n : ℕ) (text : List ℕ) where
         first : firstFit D (s .stack) (s .dead) (s .next) ≡ rowOr c
         first = sym (F .built B s v ends)
 
-      pub step-taken : (r : BacktrackEncoder) (dead' : List ℕ) → c ≡ none → TakenBack file n text e work dead r dead'
-          → Stepped T n text e work dead r work dead'
-      step-taken r dead' q K = record {
+      pub step-taken : (r : BacktrackEncoder) (alive' : List ℕ) → c ≡ none → TakenBack file n text e work alive r alive'
+          → Stepped T n text e work alive r work alive'
+      step-taken r alive' q K = record {
         ready = K .ready;
         work-length = refl;
         work-beyond = refl;
@@ -109,10 +108,10 @@ module _ (T : Tables) (n : ℕ) (text : List ℕ) where
       step-fits q = ⊎-elim (λ y. absurd (q y)) (λ y. y) (F .row)
 
       pub step-added : (r : BacktrackEncoder) (work' : List ℕ) → (c ≡ none → ⊥) → Added file places area n text e work c r work'
-          → Stepped T n text e work dead r work' dead
+          → Stepped T n text e work alive r work' alive
       step-added r work' q K = record {
         ready = K .ready;
         work-length = K .work-length;
         work-beyond = K .work-beyond;
-        built = λ B k v. rw (more B k v ∙ step-add D text (s B k v) c (first B k v ∙ row-some c q)) (K .built lefts rights prefixes B (s B k v) dead v);
+        built = λ B k v. rw (more B k v ∙ step-add D text (s B k v) c (first B k v ∙ row-some c q)) (K .built lefts rights prefixes B (s B k v) alive v);
       }

@@ -10,9 +10,9 @@ use Rattle.theory.specs.Parts as Parts
 use Rattle.theory.specs.Backtracking.{State, firstFit}
 use Rattle.theory.proofs.Candidates.{fits-first, fits-later}
 use Rattle.phrase_file.specs.Form.{rows}
-use Rattle.placed_rows.specs.Rows.{none}
-use Rattle.built.specs.Built.{Built, dictionaryOf}
-use Rattle.built.proofs.Lookups.{prefix-cases}
+use Rattle.theory.specs.Dictionary.{none}
+use Rattle.built_tables.specs.Built.{Built, dictionaryOf}
+use Rattle.built_tables.proofs.Lookups.{prefix-cases}
 use Rattle.backtrack_encoder.specs.declared.BacktrackEncoder.{BacktrackEncoder}
 use Rattle.backtrack_encoder.specs.Encoder.{TextReady, toTry, EncoderReady, Shows}
 use Rattle.backtrack_encoder.specs.Steps.{EndsIn, FitsIs, FirstFitIs}
@@ -21,26 +21,26 @@ use Rattle.backtrack_encoder.proofs.Sizes.{not-none}
 use Rattle.tables.specs.Tables.{Tables, withoutPrefixes}
 
 -- what is known of the row at a turn: a row or none, and under Built the first that fits is still to come
-pub record Trying (T : Tables) (n : ℕ) (text : List ℕ) (e : BacktrackEncoder) (work dead : List ℕ) (token : ℕ) : Type 0 where
+pub record Trying (T : Tables) (n : ℕ) (text : List ℕ) (e : BacktrackEncoder) (work alive : List ℕ) (token : ℕ) : Type 0 where
   pub row : (token ≡ none) ⊎ (token < n)
   pub ends : Built T n → EndsIn (T .file) text e (e .next) → token < n → EndsIn (T .file) text e token
-  pub same : Built T n → EndsIn (T .file) text e (e .next) → (s : State) → Shows (dictionaryOf (T .file)) text e work dead s
+  pub same : Built T n → EndsIn (T .file) text e (e .next) → (s : State) → Shows (dictionaryOf (T .file)) text e work alive s
       → firstFit (dictionaryOf (T .file)) (s .stack) (s .dead) (toTry (dictionaryOf (T .file)) token) ≡ firstFit (dictionaryOf (T .file)) (s .stack) (s .dead) (s .next)
 
-module _ (T : Tables) (n : ℕ) (text : List ℕ) (e : BacktrackEncoder) (work dead : List ℕ)
+module _ (T : Tables) (n : ℕ) (text : List ℕ) (e : BacktrackEncoder) (work alive : List ℕ)
     (K : TextReady T n text work) where
   open Tables T using (file, places, prefixes)
 
-  pub try-start : EncoderReady file n text e work → Trying T n text e work dead (e .next)
+  pub try-start : EncoderReady file n text e work → Trying T n text e work alive (e .next)
   try-start R = record {
     row = R .next;
     ends = λ B i h. i;
     same = λ B i s v. ap (firstFit (dictionaryOf file) (s .stack) (s .dead)) (sym (v .next));
   }
 
-  module _ (token : ℕ) (Y : Trying T n text e work dead token) where
+  module _ (token : ℕ) (Y : Trying T n text e work alive token) where
     -- nothing is left to try
-    pub try-end : token ≡ none → FirstFitIs T n text e work dead none
+    pub try-end : token ≡ none → FirstFitIs T n text e work alive none
     try-end z = record {
       row = inl refl;
       built = λ B s v i. row-none
@@ -56,7 +56,7 @@ module _ (T : Tables) (n : ℕ) (text : List ℕ) (e : BacktrackEncoder) (work d
       list = try-row (dictionaryOf file) token some
 
       -- the row fits
-      pub try-fits : (r : Bool) → r ≡ true → FitsIs (withoutPrefixes T) n text e work dead token r → FirstFitIs T n text e work dead token
+      pub try-fits : (r : Bool) → r ≡ true → FitsIs (withoutPrefixes T) n text e work alive token r → FirstFitIs T n text e work alive token
       try-fits r y F = record {
         row = inr (try-below, F .ends y);
         built = λ B s v i. row-some token some
@@ -91,7 +91,7 @@ module _ (T : Tables) (n : ℕ) (text : List ℕ) (e : BacktrackEncoder) (work d
             (prefix-cases T n B token try-below)
 
       -- it does not fit
-      pub try-next : (r : Bool) → r ≡ false → FitsIs (withoutPrefixes T) n text e work dead token r → Trying T n text e work dead (getD prefixes token 0)
+      pub try-next : (r : Bool) → r ≡ false → FitsIs (withoutPrefixes T) n text e work alive token r → Trying T n text e work alive (getD prefixes token 0)
       try-next r y F = record {
         row = ⊎-elim inl (λ p. inr (p .0)) (K .tables .prefixes-ready .shorter token try-below);
         ends = λ B i. shorter-ends i B;

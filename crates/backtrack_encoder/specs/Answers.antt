@@ -5,7 +5,7 @@ use Prim.Native.Nat.{ℕ, _≤_, _<_}
 use lib.ListN.{length, getD, take, drop}
 use Rattle.theory.specs.Merge.{encode}
 use Rattle.theory.specs.Backtracking as Backtracking
-use Rattle.built.specs.Built.{Built, dictionaryOf}
+use Rattle.built_tables.specs.Built.{Built, dictionaryOf}
 use Rattle.backtrack_encoder.specs.declared.Limited.{Limited}
 use Rattle.backtrack_encoder.specs.declared.Limited.the-variants.{Counted, Over}
 use Rattle.backtrack_encoder.specs.Encoder.{TextReady}

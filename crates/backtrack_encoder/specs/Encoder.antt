@@ -13,7 +13,7 @@ use Rattle.theory.specs.Backtracking.{State, place}
 use Rattle.bitfield.specs.Bits.{isSet}
 use Rattle.tables.specs.Tables.{Tables}
 use Rattle.tables.specs.Ready.{PlacesReady, Ready}
-use Rattle.built.specs.Built.{dictionaryOf}
+use Rattle.built_tables.specs.Built.{dictionaryOf}
 use Rattle.backtrack_encoder.specs.declared.BacktrackEncoder.{BacktrackEncoder}
 
 -- tables in form, a text of at most 4,096 bytes, and a work buffer with one number per byte
@@ -46,7 +46,8 @@ pub record EncoderReady (file : List ℕ) (n : ℕ) (text : List ℕ) (e : Backt
   pub next : (e .next ≡ none) ⊎ (e .next < n)
 
 -- the encoder, its codes and the bits of the places that are not dead show a state of the definition
-pub record Shows (D : Dictionary) (text : List ℕ) (e : BacktrackEncoder) (work dead : List ℕ) (s : State) : Type 0 where
+pub record Shows (D : Dictionary) (text : List ℕ) (e : BacktrackEncoder) (work alive : List ℕ)
+    (s : State) : Type 0 where
   pub stack : s .stack ≡ stackOf work (e .count)
   pub next : s .next ≡ toTry D (e .next)
-  pub alive : (p : ℕ) → p ≤ length text → isSet dead p ≡ not (s .dead p)
+  pub bits : (p : ℕ) → p ≤ length text → isSet alive p ≡ not (s .dead p)

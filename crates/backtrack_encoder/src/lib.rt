@@ -11,15 +11,16 @@ ghost use Rattle.tables.specs.Tables.{given, lent, pairLent, before, after};
 ghost use Rattle.tables.specs.Ready.{PlacesReady, PartsReady};
 ghost use Rattle.backtrack_encoder.specs.Encoder.{TextReady, RowsReady, EncoderReady};
 ghost use Rattle.backtrack_encoder.specs.Steps.{EndsIn, FitsIs, FirstFitIs, Started, Added, TakenBack, Stepped};
-ghost use Rattle.backtrack_encoder.specs.Answers.{limitedOf, OutputReady, Backtracked, EncodedInto, CountIs, LimitedIs};
+ghost use Rattle.backtrack_encoder.specs.Answers.{limitedOf, OutputReady, Backtracked, EncodedInto, CountIs};
+ghost use Rattle.backtrack_encoder.specs.Answers.{LimitedIs};
 use bitfield::all_set;
 use bitfield::bit_is_set;
 use bitfield::clear_bit;
+use pair_check::is_valid_pair;
 use placed_rows::NONE;
 use placed_rows::length_of;
 use placed_rows::wide;
 use search_area::next_match;
-use token_pair::is_valid_pair;
 
 // The number of codes so far, the place that they reach, and the next row to try, NONE where nothing is left to try.
 // The codes stand at the front of a lent work buffer. The places that are not dead are the set bits of 65 words.
@@ -46,20 +47,20 @@ fn fits(
     text: &[u8],
     encoder: BacktrackEncoder,
     work: &[u32],
-    dead: &[u64; 65],
+    alive: &[u64; 65],
     token: u32,
 ) -> bool
     requires { ⌜ RowsReady (now file) (now places) (now area) n (now text) (now work) × PartsReady (now file)
         (now lefts) (now rights) n ⌝ }
     requires { ⌜ EncoderReady (now file) n (now text) encoder (now work) × (token < n) ⌝ }
     ensures { λ r. ⌜ FitsIs (pairLent file places lefts rights area) n (before text) encoder (before work)
-        (before dead) token r ⌝ }
+        (before alive) token r ⌝ }
 {
     let end = encoder.pos + length_of(file, places, n, wide(token));
     if text.len() < end {
         return false;
     }
-    if !bit_is_set(dead, end) {
+    if !bit_is_set(alive, end) {
         return false;
     }
     if encoder.count == 0 {
@@ -82,12 +83,12 @@ fn first_fit(
     text: &[u8],
     encoder: BacktrackEncoder,
     work: &[u32],
-    dead: &[u64; 65],
+    alive: &[u64; 65],
 ) -> u32
     requires { ⌜ TextReady (given file places lefts rights prefixes area) n (now text) (now work) ⌝ }
     requires { ⌜ EncoderReady (now file) n (now text) encoder (now work) ⌝ }
     ensures { λ r. ⌜ FirstFitIs (lent file places lefts rights prefixes area)
-        n (before text) encoder (before work) (before dead) r ⌝ }
+        n (before text) encoder (before work) (before alive) r ⌝ }
 {
     let mut token = encoder.next;
     while token != NONE {
@@ -101,7 +102,7 @@ fn first_fit(
             text,
             encoder,
             work,
-            dead,
+            alive,
             token,
         ) {
             return token;
@@ -162,14 +163,14 @@ fn take_back(
     text: &[u8],
     encoder: BacktrackEncoder,
     work: &[u32],
-    dead: &mut [u64; 65],
+    alive: &mut [u64; 65],
 ) -> BacktrackEncoder
     requires { ⌜ PlacesReady (now file) (now places) n × (length (now text) ≤ length (now work)) ⌝ }
     requires { ⌜ EncoderReady (now file) n (now text) encoder (now work) ⌝ }
     ensures { λ r. ⌜ TakenBack (now (file .entry)) n (now (text .entry)) encoder (now (work .entry))
-        (now (dead .entry)) r (now (dead .exit)) ⌝ }
+        (now (alive .entry)) r (now (alive .exit)) ⌝ }
 {
-    clear_bit(dead, encoder.pos);
+    clear_bit(alive, encoder.pos);
     if encoder.count == 0 {
         return BacktrackEncoder {
             count: 0,
@@ -199,12 +200,12 @@ pub fn step(
     text: &[u8],
     encoder: BacktrackEncoder,
     work: &mut [u32],
-    dead: &mut [u64; 65],
+    alive: &mut [u64; 65],
 ) -> BacktrackEncoder
     requires { ⌜ TextReady (given file places lefts rights prefixes area) n (now text) (now work) ⌝ }
     requires { ⌜ EncoderReady (now file) n (now text) encoder (now work) ⌝ }
     ensures { λ r. ⌜ Stepped (lent file places lefts rights prefixes area)
-        n (before text) encoder (before work) (before dead) r (after work) (after dead) ⌝ }
+        n (before text) encoder (before work) (before alive) r (after work) (after alive) ⌝ }
 {
     if encoder.next == NONE {
         return encoder;
@@ -220,10 +221,10 @@ pub fn step(
         text,
         encoder,
         work,
-        dead,
+        alive,
     );
     if token == NONE {
-        return take_back(file, places, n, text, encoder, work, dead);
+        return take_back(file, places, n, text, encoder, work, alive);
     }
     add(file, places, area, n, text, encoder, token, work)
 }
@@ -244,7 +245,7 @@ pub fn backtrack(
     ensures { λ r. ⌜ Backtracked (lent file places lefts rights prefixes area)
         n (before text) (before work) r (after work) ⌝ }
 {
-    let mut dead = all_set();
+    let mut alive = all_set();
     let mut encoder = start(file, places, area, n, text);
     let mut left = 2 * text.len();
     while left > 0 {
@@ -262,7 +263,7 @@ pub fn backtrack(
             text,
             encoder,
             work,
-            &mut dead,
+            &mut alive,
         );
         left -= 1;
     }
@@ -362,7 +363,7 @@ pub fn count_till_limit_core(
         n (before text) limit (before work) r (after work) ⌝ }
 {
     let limit_with_buffer = buffered(limit);
-    let mut dead = all_set();
+    let mut alive = all_set();
     let mut encoder = start(file, places, area, n, text);
     let mut steps = 2 * text.len();
     while steps > 0 {
@@ -380,7 +381,7 @@ pub fn count_till_limit_core(
             text,
             encoder,
             work,
-            &mut dead,
+            &mut alive,
         );
         steps -= 1;
         if encoder.next == NONE {

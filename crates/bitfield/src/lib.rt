@@ -2,7 +2,8 @@
 // The functions over `&[u64; 65]` do the work and copy no words. The methods take the bit set by value.
 ghost use mathlib.Core.Path.{_≡_};
 ghost use Prim.Native.Nat.{suc, _-_, _<_, min};
-ghost use Rattle.bitfield.specs.Bits.{wordBit, isSet, allSet, without, lowest, highest, successor, predecessor, placeOf};
+ghost use Rattle.bitfield.specs.Bits.{wordBit, isSet, allSet, without, lowest, highest, successor, predecessor};
+ghost use Rattle.bitfield.specs.Bits.{placeOf};
 
 pub struct BitField {
     pub words: [u64; 65],

@@ -4,3 +4,4 @@ pub mod Sending
 pub mod Counting
 pub mod Promises
 pub mod RoundTrip
+pub mod PairAnswers

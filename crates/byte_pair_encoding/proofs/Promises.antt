@@ -22,8 +22,8 @@ use Rattle.causes.specs.declared.Answer.{Answer}
 use Rattle.causes.specs.declared.Answer.the-variants.{Number, Refused}
 use Rattle.tables.specs.declared.Form.the-variants as Form
 use Rattle.tables.specs.InForm.{formOf}
-use Rattle.built.specs.Built.{dictionaryOf, Built}
-use Rattle.built.proofs.InForm.{in-form}
+use Rattle.built_tables.specs.Built.{dictionaryOf, Built}
+use Rattle.built_tables.proofs.InForm.{in-form}
 use Rattle.causes.specs.declared.LimitAnswer.{LimitAnswer}
 use Rattle.causes.specs.declared.LimitAnswer.the-variants as LimitAnswer
 use Rattle.byte_pair_encoding.specs.Refusals.{sendRefusal, countRefusal}

@@ -16,7 +16,7 @@ use Rattle.theory.proofs.Demands.{demand-2-decoding}
 use Rattle.tables.specs.Tables.{Tables}
 use Rattle.causes.specs.declared.Answer.{Answer}
 use Rattle.causes.specs.declared.Answer.the-variants.{Number}
-use Rattle.built.specs.Built.{dictionaryOf, Built}
+use Rattle.built_tables.specs.Built.{dictionaryOf, Built}
 use Rattle.byte_pair_encoding.specs.Sending.{Sends}
 use Rattle.byte_pair_encoding.proofs.Refusals.{no-refusal}
 use Rattle.byte_pair_encoding.proofs.Promises.{sends-codes}

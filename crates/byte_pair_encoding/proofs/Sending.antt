@@ -16,10 +16,10 @@ use Rattle.causes.specs.declared.Answer.the-variants.{Number, Refused}
 use Rattle.causes.specs.Call.{toNumber}
 use Rattle.causes.proofs.Calls.{call-refused, call-given}
 use Rattle.tables.specs.InForm.{formOf}
-use Rattle.built.specs.Built.{dictionaryOf, Built}
+use Rattle.built_tables.specs.Built.{dictionaryOf, Built}
 use Rattle.backtrack_encoder.specs.Answers.{OutputReady, EncodedInto}
 use Rattle.merge_encoder.specs.Encoding as Merge
-use Rattle.prefix_table.specs.Walk.{TableReady, TableCodes}
+use Rattle.table_encoder.specs.Walk.{TableReady, TableCodes}
 use Rattle.shortest_encoder.specs.Encoders.{MinimalReady, MinimalIs, GreedyReady, GreedyIs}
 use Rattle.byte_pair_encoding.specs.declared.Check.the-variants as Check
 use Rattle.byte_pair_encoding.specs.Refusals.{sendRefusal}

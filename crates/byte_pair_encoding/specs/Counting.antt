@@ -9,7 +9,7 @@ use Rattle.causes.specs.Call.{Call, toNumber}
 use Rattle.theory.specs.Merge.{encode}
 use Rattle.theory.specs.Backtracking.{Limited, counted, countTillLimit}
 use Rattle.tables.specs.Tables.{Tables}
-use Rattle.built.specs.Built.{dictionaryOf, Built}
+use Rattle.built_tables.specs.Built.{dictionaryOf, Built}
 use Rattle.byte_pair_encoding.specs.Answers.{toLimited}
 use Rattle.byte_pair_encoding.specs.Refusals.{countRefusal}
 

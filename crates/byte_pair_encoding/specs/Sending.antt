@@ -8,7 +8,7 @@ use Rattle.causes.specs.Call.{Call, toNumber}
 use Rattle.phrase_file.specs.Form.{rows}
 use Rattle.theory.specs.Dictionary.{Dictionary}
 use Rattle.tables.specs.Tables.{Tables}
-use Rattle.built.specs.Built.{dictionaryOf, Built}
+use Rattle.built_tables.specs.Built.{dictionaryOf, Built}
 use Rattle.byte_pair_encoding.specs.Refusals.{sendRefusal}
 
 -- what holds without refusal on any tables in form: no more codes than bytes, each of them a row, at the front of the

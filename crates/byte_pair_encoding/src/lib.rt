@@ -1,14 +1,21 @@
-// Sending and counting: each call checks its arguments, and then runs the encoder over tables in form.
+// Sending and counting: each call checks its arguments, and then runs the encoder over tables in form. The public pair
+// check is in pairs.rt.
+mod pairs;
+
+pub use pairs::is_valid_token_pair;
 ghost use mathlib.Core.Path.{_≡_};
 ghost use lib.ListN.{length};
 ghost use Rattle.phrase_file.specs.Form.{rows};
-ghost use Rattle.theory.specs.Merge.{encode};
+ghost use Rattle.theory.specs.Merge as Merge;
 ghost use Rattle.theory.specs.Shortest.{shortest, greedy};
-ghost use Rattle.tables.specs.Tables.{lent, before, after};
+ghost use Rattle.tables.specs.Tables.{given, lent, before, after};
 ghost use Rattle.backtrack_encoder.specs.Answers as Answers;
 ghost use Rattle.byte_pair_encoding.specs.Refusals.{sendRefusal};
 ghost use Rattle.byte_pair_encoding.specs.Answers.{checkedOf, limitGiven};
 ghost use Rattle.byte_pair_encoding.specs.Sending.{Sends};
+ghost use Rattle.byte_pair_encoding.specs.Methods.{methodOf};
+ghost use Rattle.byte_pair_encoding.specs.declared.Check.the-variants.{Rows};
+ghost use Rattle.causes.specs.declared.Answer.the-variants.{Number};
 ghost use Rattle.byte_pair_encoding.specs.Counting.{Counts, CountsTillLimit};
 use backtrack_encoder::Limited;
 use backtrack_encoder::count_core;
@@ -18,15 +25,24 @@ use causes::Answer;
 use causes::Cause;
 use causes::LimitAnswer;
 use merge_encoder::encode_via_bitfield_core;
-use prefix_table::encode_via_table_core;
 use shortest_encoder::encode_greedy_core;
 use shortest_encoder::encode_minimal_core;
+use table_encoder::encode_via_table_core;
 use tables::Form;
 
 // The count of rows, or why a call is refused.
 enum Check {
     Rows(usize),
     Refused(Cause),
+}
+
+// The encoders of document 01.
+enum Encoder {
+    Bitfield,
+    Backtracking,
+    Table,
+    Minimal,
+    Greedy,
 }
 
 // The count or "over" as an answer.
@@ -67,6 +83,102 @@ fn checked(
     }
 }
 
+// The codes of an encoder for the text, to the front of `out`, over tables that the check passed, and how many.
+fn encode_core(
+    encoder: Encoder,
+    file: &[u8],
+    places: &[u32],
+    lefts: &[u32],
+    rights: &[u32],
+    prefixes: &[u32],
+    area: &[u32],
+    n: usize,
+    text: &[u8],
+    out: &mut [u32],
+    work: &mut [u32],
+) -> usize
+    requires { ⌜ checkedOf (sendRefusal (given file places lefts rights prefixes area) (now text) (now out) (now work))
+        (length (rows (now file))) ≡ Rows n ⌝ }
+    ensures { λ r. ⌜ Sends (methodOf encoder) (lent file places lefts rights prefixes area)
+        (before text) (before out) (before work) (after out) (after work) (Number r) ⌝ }
+{
+    match encoder {
+        Encoder::Bitfield => encode_via_bitfield_core(
+            file,
+            places,
+            lefts,
+            rights,
+            area,
+            n,
+            text,
+            out,
+            work,
+        ),
+        Encoder::Backtracking => encode_via_backtracking_core(
+            file,
+            places,
+            lefts,
+            rights,
+            prefixes,
+            area,
+            n,
+            text,
+            out,
+            work,
+        ),
+        Encoder::Table => encode_via_table_core(
+            file,
+            places,
+            lefts,
+            rights,
+            area,
+            n,
+            text,
+            out,
+            work,
+        ),
+        Encoder::Minimal => encode_minimal_core(file, places, area, n, text, out, work),
+        Encoder::Greedy => encode_greedy_core(file, places, area, n, text, out),
+    }
+}
+
+// The codes of an encoder for the text, to the front of `out`, and how many.
+fn encode(
+    encoder: Encoder,
+    file: &[u8],
+    places: &[u32],
+    lefts: &[u32],
+    rights: &[u32],
+    prefixes: &[u32],
+    area: &[u32],
+    text: &[u8],
+    out: &mut [u32],
+    work: &mut [u32],
+) -> Answer
+    ensures { λ r. ⌜ Sends (methodOf encoder) (lent file places lefts rights prefixes area)
+        (before text) (before out) (before work) (after out) (after work) r ⌝ }
+{
+    match checked(file, places, lefts, rights, prefixes, area, text, out, work) {
+        Check::Rows(n) => {
+            let count = encode_core(
+                encoder,
+                file,
+                places,
+                lefts,
+                rights,
+                prefixes,
+                area,
+                n,
+                text,
+                out,
+                work,
+            );
+            Answer::Number(count)
+        }
+        Check::Refused(cause) => Answer::Refused(cause),
+    }
+}
+
 // The merge procedure's codes for the text, to the front of `out`, and how many.
 pub fn encode_via_bitfield(
     file: &[u8],
@@ -79,26 +191,21 @@ pub fn encode_via_bitfield(
     out: &mut [u32],
     work: &mut [u32],
 ) -> Answer
-    ensures { λ r. ⌜ Sends encode (lent file places lefts rights prefixes area)
+    ensures { λ r. ⌜ Sends Merge.encode (lent file places lefts rights prefixes area)
         (before text) (before out) (before work) (after out) (after work) r ⌝ }
 {
-    match checked(file, places, lefts, rights, prefixes, area, text, out, work) {
-        Check::Rows(n) => {
-            let merged = encode_via_bitfield_core(
-                file,
-                places,
-                lefts,
-                rights,
-                area,
-                n,
-                text,
-                out,
-                work,
-            );
-            Answer::Number(merged)
-        }
-        Check::Refused(cause) => Answer::Refused(cause),
-    }
+    encode(
+        Encoder::Bitfield,
+        file,
+        places,
+        lefts,
+        rights,
+        prefixes,
+        area,
+        text,
+        out,
+        work,
+    )
 }
 
 // The same codes by backtracking.
@@ -113,27 +220,21 @@ pub fn encode_via_backtracking(
     out: &mut [u32],
     work: &mut [u32],
 ) -> Answer
-    ensures { λ r. ⌜ Sends encode (lent file places lefts rights prefixes area)
+    ensures { λ r. ⌜ Sends Merge.encode (lent file places lefts rights prefixes area)
         (before text) (before out) (before work) (after out) (after work) r ⌝ }
 {
-    match checked(file, places, lefts, rights, prefixes, area, text, out, work) {
-        Check::Rows(n) => {
-            let backtracked = encode_via_backtracking_core(
-                file,
-                places,
-                lefts,
-                rights,
-                prefixes,
-                area,
-                n,
-                text,
-                out,
-                work,
-            );
-            Answer::Number(backtracked)
-        }
-        Check::Refused(cause) => Answer::Refused(cause),
-    }
+    encode(
+        Encoder::Backtracking,
+        file,
+        places,
+        lefts,
+        rights,
+        prefixes,
+        area,
+        text,
+        out,
+        work,
+    )
 }
 
 // The same codes by the table of last codes.
@@ -148,26 +249,21 @@ pub fn encode_via_table(
     out: &mut [u32],
     work: &mut [u32],
 ) -> Answer
-    ensures { λ r. ⌜ Sends encode (lent file places lefts rights prefixes area)
+    ensures { λ r. ⌜ Sends Merge.encode (lent file places lefts rights prefixes area)
         (before text) (before out) (before work) (after out) (after work) r ⌝ }
 {
-    match checked(file, places, lefts, rights, prefixes, area, text, out, work) {
-        Check::Rows(n) => {
-            let walked = encode_via_table_core(
-                file,
-                places,
-                lefts,
-                rights,
-                area,
-                n,
-                text,
-                out,
-                work,
-            );
-            Answer::Number(walked)
-        }
-        Check::Refused(cause) => Answer::Refused(cause),
-    }
+    encode(
+        Encoder::Table,
+        file,
+        places,
+        lefts,
+        rights,
+        prefixes,
+        area,
+        text,
+        out,
+        work,
+    )
 }
 
 // The fewest codes that spell the text, to the front of `out`, and how many; among those the longest first row, then
@@ -186,13 +282,18 @@ pub fn encode_minimal(
     ensures { λ r. ⌜ Sends shortest (lent file places lefts rights prefixes area)
         (before text) (before out) (before work) (after out) (after work) r ⌝ }
 {
-    match checked(file, places, lefts, rights, prefixes, area, text, out, work) {
-        Check::Rows(n) => {
-            let fewest = encode_minimal_core(file, places, area, n, text, out, work);
-            Answer::Number(fewest)
-        }
-        Check::Refused(cause) => Answer::Refused(cause),
-    }
+    encode(
+        Encoder::Minimal,
+        file,
+        places,
+        lefts,
+        rights,
+        prefixes,
+        area,
+        text,
+        out,
+        work,
+    )
 }
 
 // The longest row at each place, to the front of `out`, and how many. The work buffer is asked for, as of every
@@ -211,13 +312,18 @@ pub fn encode_greedy(
     ensures { λ r. ⌜ Sends greedy (lent file places lefts rights prefixes area)
         (before text) (before out) (before work) (after out) (after work) r ⌝ }
 {
-    match checked(file, places, lefts, rights, prefixes, area, text, out, work) {
-        Check::Rows(n) => {
-            let longest = encode_greedy_core(file, places, area, n, text, out);
-            Answer::Number(longest)
-        }
-        Check::Refused(cause) => Answer::Refused(cause),
-    }
+    encode(
+        Encoder::Greedy,
+        file,
+        places,
+        lefts,
+        rights,
+        prefixes,
+        area,
+        text,
+        out,
+        work,
+    )
 }
 
 // The number of the merge procedure's codes for the text.
@@ -231,7 +337,8 @@ pub fn count(
     text: &[u8],
     work: &mut [u32],
 ) -> Answer
-    ensures { λ r. ⌜ Counts (lent file places lefts rights prefixes area) (before text) (before work) (after work) r ⌝ }
+    ensures { λ r. ⌜ Counts (lent file places lefts rights prefixes area)
+        (before text) (before work) (after work) r ⌝ }
 {
     match checked(
         file,

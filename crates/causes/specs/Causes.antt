@@ -2,7 +2,9 @@
 use mathlib.Core.Bool.{cond}
 use Prim.Native.Nat.{ℕ}
 use Rattle.causes.specs.declared.Cause.{Cause}
-use Rattle.causes.specs.declared.Cause.the-variants.{FactorZero, BadRecord, RowCount, MissingByte, SameHash, NoParts, TooShort, OutOfForm, TooLong, UnknownCode, BadInterval, Full}
+use Rattle.causes.specs.declared.Cause.the-variants.{FactorZero, BadRecord, RowCount, MissingByte, SameHash}
+use Rattle.causes.specs.declared.Cause.the-variants.{NoParts, TooShort, OutOfForm, TooLong, UnknownCode}
+use Rattle.causes.specs.declared.Cause.the-variants.{BadInterval, Full}
 use Rattle.causes.specs.declared.BuildAnswer.{BuildAnswer}
 use Rattle.causes.specs.declared.BuildAnswer.the-variants as BuildAnswer
 use Rattle.causes.specs.declared.Answer.{Answer}

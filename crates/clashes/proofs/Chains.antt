@@ -11,7 +11,7 @@ use lib.ListN.{length, getD, set, drop, replicate, length-set, length-append, le
 use lib.Seq.{getD-set-same, getD-set-other, drop-set-lt, drop-cons, set-at, drop-drop, drop-append-add, append-snoc}
 use lib.Dec.{eqb}
 use borrow.Author.Tests.{eq-eqb, ne-eqb}
-use Rattle.placed_rows.specs.Rows.{none}
+use Rattle.theory.specs.Dictionary.{none}
 use Rattle.clashes.specs.Buckets.{emptied, head, link, stored, listed, pushed}
 
 -- the list from x, where x is no row below k and where it is one

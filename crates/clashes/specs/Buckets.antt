@@ -5,7 +5,7 @@ use mathlib.Core.Bool.{Bool, true, false, _||_}
 use Prim.Native.Nat.{ℕ, zero, suc, _+_, _%_}
 use lib.ListN.{getD, set, drop, replicate}
 use lib.Dec.{eqb}
-use Rattle.placed_rows.specs.Rows.{none}
+use Rattle.theory.specs.Dictionary.{none}
 
 -- the scratch with its first i heads emptied
 unfoldable pub emptied : List ℕ → ℕ → List ℕ

@@ -20,7 +20,7 @@ use Rattle.tables.specs.declared.Form.{Form}
 use Rattle.tables.specs.declared.Form.the-variants.{Rows, Out}
 use Rattle.tables.specs.InForm.{formOf}
 use Rattle.tables.proofs.Readiness.{ready}
-use Rattle.built.specs.Built.{dictionaryOf}
+use Rattle.built_tables.specs.Built.{dictionaryOf}
 use Rattle.decoder.specs.Decoding.{decodeRefusal, Decodes}
 use Rattle.decoder.specs.Steps.{CodesReady}
 use Rattle.decoder.proofs.Codes.{all-known, known-all}

@@ -15,7 +15,7 @@ use Rattle.theory.specs.Parts.{dictionary}
 use Rattle.theory.proofs.Stage as St
 use Rattle.theory.proofs.Neighbours.{spell-snoc}
 use Rattle.tables.specs.Ready.{PlacesReady}
-use Rattle.built.specs.Built.{dictionaryOf}
+use Rattle.built_tables.specs.Built.{dictionaryOf}
 use Rattle.decoder.specs.Steps.{CodesReady, RowRead, CopyReady, Copied}
 
 default : {A : Type 0} (l : List A) (i : ℕ) (d e : A) → i < length l → getD l i d ≡ getD l i e

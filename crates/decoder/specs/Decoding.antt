@@ -12,7 +12,7 @@ use Rattle.causes.specs.Call.{Call, toNumber}
 use Rattle.theory.specs.Dictionary.{spell}
 use Rattle.tables.specs.Tables.{Tables}
 use Rattle.tables.specs.InForm.{count, isOut, formOf}
-use Rattle.built.specs.Built.{dictionaryOf}
+use Rattle.built_tables.specs.Built.{dictionaryOf}
 
 -- why decoding is refused; "output needs the bytes spelled"
 unfoldable pub decodeRefusal : (T : Tables) (tokens out : List ℕ) → Option Cause

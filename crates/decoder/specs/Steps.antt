@@ -6,7 +6,7 @@ use lib.ListN.{length, getD, take}
 use Rattle.placed_rows.specs.Rows.{Placed}
 use Rattle.theory.specs.Dictionary.{spell}
 use Rattle.tables.specs.Ready.{PlacesReady}
-use Rattle.built.specs.Built.{dictionaryOf}
+use Rattle.built_tables.specs.Built.{dictionaryOf}
 
 -- at most 4,096 codes, each a row of the file
 pub record CodesReady (file placeTable : List ℕ) (n : ℕ) (tokens : List ℕ) : Type 0 where

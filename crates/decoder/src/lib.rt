@@ -5,7 +5,7 @@ ghost use lib.ListN.{length, take, drop};
 ghost use Rattle.placed_rows.specs.Rows.{row};
 ghost use Rattle.placed_rows.specs.Texts.{Begins};
 ghost use Rattle.theory.specs.Dictionary.{spell};
-ghost use Rattle.built.specs.Built.{dictionaryOf};
+ghost use Rattle.built_tables.specs.Built.{dictionaryOf};
 ghost use Rattle.causes.specs.Order.{firstUnknown};
 ghost use Rattle.decoder.specs.Decoding.{Decodes};
 ghost use Rattle.decoder.specs.Steps.{CodesReady, RowRead, CopyReady, Copied, WriteReady};

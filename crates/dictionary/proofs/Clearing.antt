@@ -3,7 +3,7 @@ use mathlib.Core.Path.{_≡_, ap}
 use mathlib.Core.List.{List, _++_}
 use Prim.Native.Nat.{ℕ, _+_, _≤_, _<_}
 use lib.ListN.{length, set, replicate}
-use Rattle.placed_rows.specs.Rows.{none}
+use Rattle.theory.specs.Dictionary.{none}
 use Rattle.clashes.specs.Buckets.{emptied}
 use Rattle.clashes.proofs.Chains.{emptied-start, emptied-more, emptied-length}
 use Rattle.tables.specs.Tables.{Tables, tables}

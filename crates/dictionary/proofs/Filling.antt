@@ -14,7 +14,7 @@ use Rattle.phrase_file.proofs.Checks.{accepted}
 use Rattle.placed_rows.specs.Rows.{Placed}
 use Rattle.clashes.specs.Clashes.{ClashFound}
 use Rattle.search_fill.specs.Filled.{Filled}
-use Rattle.built.specs.Built.{Built}
+use Rattle.built_tables.specs.Built.{Built}
 use Rattle.parts.specs.Parts.{PartsFit, PartsFilled}
 use Rattle.parts.specs.Marking.{AreaKept}
 use Rattle.parts.proofs.Marking.{kept-all}

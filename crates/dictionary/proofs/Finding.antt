@@ -20,7 +20,7 @@ use Rattle.search_fill.specs.Filled.{Filled}
 use Rattle.parts.specs.Parts.{isSome, RowsFound, PartsFilled}
 use Rattle.parts.proofs.Prefixes.{different, prefix-is}
 use Rattle.parts.proofs.Marking.{still-found}
-use Rattle.built.specs.Built.{dictionaryOf, Built}
+use Rattle.built_tables.specs.Built.{dictionaryOf, Built}
 use Rattle.tables.specs.Tables.{tables}
 use Rattle.dictionary.specs.Build.{sameHash}
 use Rattle.dictionary.specs.Steps.{Searched}

@@ -17,7 +17,7 @@ use Rattle.phrase_file.proofs.Rows.{RowIs, row-is}
 use Rattle.placed_rows.specs.Rows.{row}
 use Rattle.placed_rows.proofs.Placing.{row-none}
 use Rattle.tables.specs.Ready.{PlacesReady}
-use Rattle.token_pair.specs.Pair.{Distinct}
+use Rattle.pair_check.specs.Pair.{Distinct}
 use Rattle.fnv.specs.Fnv.{rowHash}
 use Rattle.clashes.specs.Clashes.{firstClash, hashes}
 use Rattle.clashes.proofs.Laws.{clash-within, clash-none-rows}

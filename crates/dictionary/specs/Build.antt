@@ -15,13 +15,13 @@ use Rattle.causes.specs.Order.{buildOrder, Condition, when, firstOf}
 use Rattle.causes.specs.Call.{Call, toRows}
 use Rattle.phrase_file.specs.Form.{rows}
 use Rattle.phrase_file.specs.Checks.{fileConditions}
-use Rattle.placed_rows.specs.Rows.{none}
+use Rattle.theory.specs.Dictionary.{none}
 use Rattle.fnv.specs.Fnv.{rowHash}
 use Rattle.clashes.specs.Clashes.{firstClash}
 use Rattle.parts.specs.Parts.{firstWithout}
 use Rattle.tables.specs.Tables.{Tables, tables}
 use Rattle.tables.specs.InForm.{count}
-use Rattle.built.specs.Built.{Built}
+use Rattle.built_tables.specs.Built.{Built}
 
 -- cause 7: a table has fewer than n entries, or the search area fewer than 16,384
 unfoldable pub tooShort : Tables → ℕ → Bool

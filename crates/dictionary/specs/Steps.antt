@@ -14,7 +14,7 @@ use Rattle.causes.specs.Call.{saying, toRows}
 use Rattle.phrase_file.specs.Form.{places, rows}
 use Rattle.phrase_file.specs.Checks.{checkOf}
 use Rattle.tables.specs.Tables.{Tables}
-use Rattle.built.specs.Built.{Built}
+use Rattle.built_tables.specs.Built.{Built}
 use Rattle.parts.specs.Parts.{firstWithout, RowsFound, PrefixesFound}
 use Rattle.dictionary.specs.Build.{tooShort, sameHash, beyond}
 

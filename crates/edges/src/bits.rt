@@ -81,7 +81,7 @@ fn report(name: &[u8], right: bool) {
     }
 }
 
-pub fn work_through() {
+pub(crate) fn work_through() {
     report(b"all set", all_set());
     report(b"beyond", beyond());
     report(b"clear", clear());

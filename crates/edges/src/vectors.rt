@@ -122,7 +122,7 @@ fn cuts(text: &[u8], published: u64) {
     }
 }
 
-pub fn work_through() {
+pub(crate) fn work_through() {
     text_vectors();
     octet_vectors();
     rows();

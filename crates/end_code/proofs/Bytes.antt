@@ -6,16 +6,16 @@ use Prim.Native.Nat.{ℕ, suc, _<_}
 use native.Mathlib.Omega.{arith}
 use lib.ListN.{length, getD, drop}
 use lib.Seq.{drop-cons}
-use Rattle.placed_rows.specs.Rows.{none, row}
+use Rattle.placed_rows.specs.Rows.{row}
 use Rattle.placed_rows.specs.Texts.{Begins}
 use Rattle.placed_rows.proofs.Placing.{row-none}
-use Rattle.theory.specs.Dictionary.{Dictionary}
+use Rattle.theory.specs.Dictionary.{Dictionary, none}
 use Rattle.theory.proofs.Lists.{cons-head}
 use Rattle.theory.proofs.PairCheck.{Lawful}
 use Rattle.theory.proofs.RowsAt.{different}
 use Rattle.search_area.specs.Answers.{Within, LongerMatch, Reached}
-use Rattle.built.specs.Built.{dictionaryOf, Built}
-use Rattle.built.proofs.Rows.{count-is, row-bytes, lawful-is, known}
+use Rattle.built_tables.specs.Built.{dictionaryOf, Built}
+use Rattle.built_tables.proofs.Rows.{count-is, row-bytes, lawful-is, known}
 use Rattle.end_code.specs.Codes.{ByteReady, ByteIs}
 use Rattle.tables.specs.Tables.{tables}
 

@@ -2,22 +2,22 @@
 use mathlib.Core.Path.{_≡_, refl, sym, ap, _∙_}
 use mathlib.Core.Logic.{_⊎_, ⊎-elim}
 use mathlib.Core.List.{List, [], _∷_, _++_, reverse-append}
-use mathlib.Core.Bool.{Bool}
+use mathlib.Core.Bool.{not, Bool}
 use Prim.Native.Nat.{ℕ, suc, _+_, _-_, _≤_, _<_}
 use native.Mathlib.Omega.{arith}
 use lib.ListN.{length, length-append, getD, take}
 use lib.Seq.{length-take-le, take-at, take-take, take-suc}
-use Rattle.placed_rows.specs.Rows.{none, row}
-use Rattle.theory.specs.Dictionary.{Dictionary}
+use Rattle.placed_rows.specs.Rows.{row}
+use Rattle.theory.specs.Dictionary.{Dictionary, none}
 use Rattle.theory.specs.Merge.{encode}
 use Rattle.theory.specs.Typing.{Side, append, prepend, inOrder, endCode, codeAt}
 use Rattle.theory.specs.FirstJoin.{otherPart}
 use Rattle.theory.proofs.Sides.{inOrder-twice, inOrder-nil, length-inOrder}
 use Rattle.theory.proofs.FirstJoin.{beside, Reached, reached-byte, reached-all, EndOf, end-of, reached-end, reached-join}
-use Rattle.built.specs.Built.{dictionaryOf, Built}
-use Rattle.built.proofs.Rows.{lawful-is, known}
+use Rattle.built_tables.specs.Built.{dictionaryOf, Built}
+use Rattle.built_tables.proofs.Rows.{lawful-is, known}
 use Rattle.end_code.specs.Tables.{RowReady}
-use Rattle.end_code.specs.Joins.{sideOf, otherOf, PartReady, FirstReady, FirstIs}
+use Rattle.end_code.specs.Joins.{sideOf, partOf, PartReady, FirstReady, FirstIs}
 use Rattle.end_code.specs.Codes.{ByteReady, ByteIs, CodesTo, CodeReady, CodeIs}
 use Rattle.end_code.proofs.Sizes.{read-size, row-some}
 use Rattle.end_code.proofs.Parts.{part-ready, other-row, other-is}
@@ -131,10 +131,10 @@ module _ (P : PairTables) (at-end : Bool) (n : ℕ) (bytes : List ℕ) (i : ℕ)
           pub joined-part : PartReady lefts rights r
           joined-part = part-ready P n (S .ready .in-form) r joined-row
 
-          pub joined-other : (o : ℕ) → o ≡ otherOf lefts rights at-end r → o < n
+          pub joined-other : (o : ℕ) → o ≡ partOf lefts rights (not at-end) r → o < n
           joined-other o e = rw e (other-row P n (S .ready .in-form) r joined-row at-end)
 
-          module _ (o len : ℕ) (eo : o ≡ otherOf lefts rights at-end r) (x : ℕ) (el : len ≡ length (row file places n x)) (ex : x ≡ o) where
+          module _ (o len : ℕ) (eo : o ≡ partOf lefts rights (not at-end) r) (x : ℕ) (el : len ≡ length (row file places n x)) (ex : x ≡ o) where
             row-ready : RowReady file places n o
             row-ready = record { places-ready = S .ready .in-form .places-ready; row = joined-other o eo }
 

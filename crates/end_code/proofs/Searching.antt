@@ -6,18 +6,17 @@ use mathlib.Core.Bool.{Bool, true, false}
 use Prim.Native.Nat.{ℕ, _≤_, _<_}
 use native.Mathlib.Decide.{ℕ-discrete}
 use native.Mathlib.Omega.{arith}
-use Rattle.placed_rows.specs.Rows.{none}
-use Rattle.theory.specs.Dictionary.{Dictionary}
+use Rattle.theory.specs.Dictionary.{Dictionary, none}
 use Rattle.theory.specs.Paper.{listed}
 use Rattle.theory.proofs.Lists.{true-false, bool-cases}
 use Rattle.theory.proofs.PairSteps.{listed-one}
 use Rattle.theory.proofs.Spine as Spine
 use Rattle.theory.proofs.Spine.{orElse, or-none, or-some}
-use Rattle.token_pair.specs.Pair.{PairReady, JoinReady, JoinIs}
-use Rattle.built.specs.Built.{dictionaryOf, Built}
-use Rattle.built.proofs.Rows.{count-is, places-ready, lawful-is, tells, distinct-rows}
-use Rattle.built.proofs.InForm.{ready}
-use Rattle.end_code.specs.Joins.{sideOf, boundOf, innerOf, BesideReady, BesideIs, FirstReady, FirstIs}
+use Rattle.pair_check.specs.Pair.{PairReady, JoinReady, JoinIs}
+use Rattle.built_tables.specs.Built.{dictionaryOf, Built}
+use Rattle.built_tables.proofs.Rows.{count-is, places-ready, lawful-is, tells, distinct-rows}
+use Rattle.built_tables.proofs.InForm.{ready}
+use Rattle.end_code.specs.Joins.{sideOf, boundOf, partOf, BesideReady, BesideIs, FirstReady, FirstIs}
 use Rattle.end_code.proofs.Parts.{bound-is, inner-is, inner-lower, inner-long, inner-single}
 use Rattle.tables.specs.Tables.{PairTables, withPrefixes}
 
@@ -121,7 +120,7 @@ module _ (P : PairTables) (at-end : Bool) (n u s : ℕ) where
           go (yes z) = rw (e, or-none v best z) (S .best-row)
           go (no z) = rw (e, or-some v best z) (inr (⊎-elim (λ y. absurd (z y)) (λ h. let b = S .most in omega arith) (F .bound)))
 
-      pub search-next : (best' part bound' : ℕ) → best' ≡ orElse v best → part ≡ innerOf lefts rights at-end x → (part ≡ x → ⊥) → bound' ≡ boundOf at-end x
+      pub search-next : (best' part bound' : ℕ) → best' ≡ orElse v best → part ≡ partOf lefts rights at-end x → (part ≡ x → ⊥) → bound' ≡ boundOf at-end x
           → (part < x) × Searching P at-end n u s part bound' best'
       search-next best' part bound' eb ep d eo =
           let low : part < x = rw ep (inner-lower P n (S .ready .in-form) x (S .row) at-end (rw (← ep) d)) in
@@ -144,7 +143,7 @@ module _ (P : PairTables) (at-end : Bool) (n u s : ℕ) where
           top-of true = let h = S .row in omega arith
           top-of false = let h = S .row in omega arith
 
-      pub search-end : (best' part : ℕ) → best' ≡ orElse v best → part ≡ innerOf lefts rights at-end x → part ≡ x → FirstIs P at-end n u s best'
+      pub search-end : (best' part : ℕ) → best' ≡ orElse v best → part ≡ partOf lefts rights at-end x → part ≡ x → FirstIs P at-end n u s best'
       search-end best' part eb ep d = record {
         bound = found best' eb;
         built = λ prefixes B.

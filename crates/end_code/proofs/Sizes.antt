@@ -7,7 +7,7 @@ use lib.ListN.{length, getD}
 use Rattle.phrase_file.specs.Form.{rows}
 use Rattle.placed_rows.specs.Rows.{row}
 use Rattle.theory.specs.Parts.{dictionary}
-use Rattle.built.specs.Built.{dictionaryOf}
+use Rattle.built_tables.specs.Built.{dictionaryOf}
 use Rattle.end_code.specs.Tables.{RowReady}
 
 -- the default does not matter below the length

@@ -8,7 +8,7 @@ use Rattle.marks.specs.Layout.{areaSize}
 use Rattle.theory.specs.Typing.{codeAt}
 use Rattle.tables.specs.Tables.{tables, PairTables, withPrefixes}
 use Rattle.tables.specs.Ready.{PlacesReady}
-use Rattle.built.specs.Built.{dictionaryOf, Built}
+use Rattle.built_tables.specs.Built.{dictionaryOf, Built}
 use Rattle.end_code.specs.Tables.{PartsInForm, FrontRows}
 use Rattle.end_code.specs.Joins.{sideOf}
 

@@ -7,10 +7,11 @@ use mathlib.Core.Bool.{Bool, true, false}
 use Prim.Native.Nat.{ℕ, _+_, _≤_, _<_}
 use lib.ListN.{length, getD}
 use Rattle.marks.specs.Layout.{areaSize}
-use Rattle.placed_rows.specs.Rows.{none, Placed}
+use Rattle.theory.specs.Dictionary.{none}
+use Rattle.placed_rows.specs.Rows.{Placed}
 use Rattle.theory.specs.Typing.{Side, append, prepend}
 use Rattle.theory.specs.FirstJoin.{JoinBelow, FirstJoin}
-use Rattle.built.specs.Built.{dictionaryOf, Built}
+use Rattle.built_tables.specs.Built.{dictionaryOf, Built}
 use Rattle.end_code.specs.Tables.{PartsInForm}
 use Rattle.tables.specs.Tables.{PairTables, withPrefixes}
 
@@ -23,13 +24,10 @@ abbrev pub boundOf : Bool → ℕ → ℕ
 boundOf true x = x
 boundOf false x = x + 1
 
-abbrev pub innerOf : List ℕ → List ℕ → Bool → ℕ → ℕ
-innerOf lefts rights true x = getD rights x 0
-innerOf lefts rights false x = getD lefts x 0
-
-abbrev pub otherOf : List ℕ → List ℕ → Bool → ℕ → ℕ
-otherOf lefts rights true x = getD lefts x 0
-otherOf lefts rights false x = getD rights x 0
+-- the last part of row x, or its first
+abbrev pub partOf : List ℕ → List ℕ → Bool → ℕ → ℕ
+partOf lefts rights true x = getD rights x 0
+partOf lefts rights false x = getD lefts x 0
 
 -- the parts of row x may be read
 pub record PartReady (lefts rights : List ℕ) (x : ℕ) : Type 0 where

@@ -5,7 +5,7 @@ ghost use mathlib.Core.Path.{_≡_};
 ghost use Prim.Native.Nat.{_<_};
 ghost use lib.ListN.{length};
 ghost use Rattle.theory.proofs.Spine.{orElse};
-ghost use Rattle.end_code.specs.Joins.{boundOf, innerOf, otherOf, PartReady, BesideReady, BesideIs, FirstReady, FirstIs};
+ghost use Rattle.end_code.specs.Joins.{boundOf, partOf, PartReady, BesideReady, BesideIs, FirstReady, FirstIs};
 ghost use Rattle.end_code.specs.Codes.{ByteReady, ByteIs, CodeReady, CodeIs};
 ghost use Rattle.tables.specs.Tables.{pairGiven, pairLent, before};
 use placed_rows::NONE;
@@ -26,26 +26,15 @@ fn bound_at(x: u32, append: bool) -> u32
     if append { x } else { x + 1 }
 }
 
-// The part of row x at the end where rows are typed.
-fn inner_part(lefts: &[u32], rights: &[u32], x: u32, append: bool) -> u32
+// The last part of row x, or its first.
+fn part_of(lefts: &[u32], rights: &[u32], x: u32, last: bool) -> u32
     requires { ⌜ PartReady (now lefts) (now rights) x ⌝ }
-    ensures { λ r. ⌜ r ≡ innerOf (now (lefts .entry)) (now (rights .entry)) append x ⌝ }
+    ensures { λ r. ⌜ r ≡ partOf (now (lefts .entry)) (now (rights .entry)) last x ⌝ }
 {
-    if append {
+    if last {
         return rights[x as usize];
     }
     lefts[x as usize]
-}
-
-// The part of row x that is not the row typed last.
-fn other_part(lefts: &[u32], rights: &[u32], x: u32, append: bool) -> u32
-    requires { ⌜ PartReady (now lefts) (now rights) x ⌝ }
-    ensures { λ r. ⌜ r ≡ otherOf (now (lefts .entry)) (now (rights .entry)) append x ⌝ }
-{
-    if append {
-        return lefts[x as usize];
-    }
-    rights[x as usize]
 }
 
 // The row below bound that has x and, typed beside it, `typed` as its parts, or NONE.
@@ -66,7 +55,7 @@ fn join_beside(
 {
     let limit = n as u32;
     if append {
-        return token_pair::join_before(
+        return pair_check::join_before(
             file,
             places,
             lefts,
@@ -79,7 +68,7 @@ fn join_beside(
             typed,
         );
     }
-    token_pair::join_before(file, places, lefts, rights, area, n, limit, bound, typed, x)
+    pair_check::join_before(file, places, lefts, rights, area, n, limit, bound, typed, x)
 }
 
 // The lowest row that joins `typed` and what `code` has at that end by then, or NONE.
@@ -114,7 +103,7 @@ fn first_join(
             append,
         );
         best = or_else(v, best);
-        let part = inner_part(lefts, rights, x, append);
+        let part = part_of(lefts, rights, x, append);
         if part == x {
             return best;
         }
@@ -160,7 +149,7 @@ pub fn end_code_at(
         if joined == NONE {
             return code;
         }
-        let other = other_part(lefts, rights, joined, append);
+        let other = part_of(lefts, rights, joined, !append);
         let len = placed_rows::length_of(file, places, n, wide(other));
         if at < len {
             // Never on the tables of a build: the part ends the bytes before.

@@ -6,13 +6,13 @@ use mathlib.Core.Bool.{Bool}
 use Prim.Native.Nat.{ℕ}
 use native.Mathlib.Omega.{arith}
 use lib.ListN.{length, getD}
-use Rattle.placed_rows.specs.Rows.{none}
+use Rattle.theory.specs.Dictionary.{none}
 use Rattle.forest.specs.Words.{row-of, bucketOf, In, byteOf, wordOf, Indexed}
 use Rattle.forest.proofs.NoChild.{filled}
 use Rattle.forest.proofs.Packing.{word-row}
 
-module _ (R : ℕ → List ℕ) (n : ℕ) (half : List ℕ) (b w : ℕ) (stood : w ≡ getD half (bucketOf none b) 0)
-    (S : ℕ → Bool) (I : Indexed R n half S) (d : ℕ) (s : In S d) (e : R d ≡ b ∷ []) where
+module _ (R : ℕ → List ℕ) (n : ℕ) (area : List ℕ) (b w : ℕ) (stood : w ≡ getD area (bucketOf none b) 0)
+    (S : ℕ → Bool) (I : Indexed R n area S) (d : ℕ) (s : In S d) (e : R d ≡ b ∷ []) where
   at-root : I .par d ≡ none
   at-root = ⊎-elim
       (λ z. z)
@@ -28,5 +28,5 @@ module _ (R : ℕ → List ℕ) (n : ℕ) (half : List ℕ) (b w : ℕ) (stood :
   row-is =
       let l = I .below d s in
       let f = I .few in
-      let v : w ≡ wordOf R (I .par) d = stood ∙ (λ i. getD half (bucketOf (sym at-root i) (sym byte-is i)) 0) ∙ I .single d s (ap length e) in
+      let v : w ≡ wordOf R (I .par) d = stood ∙ (λ i. getD area (bucketOf (sym at-root i) (sym byte-is i)) 0) ∙ I .single d s (ap length e) in
       ap (λ (x : ℕ). row-of x) v ∙ word-row d _ _ (omega arith)

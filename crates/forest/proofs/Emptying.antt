@@ -1,25 +1,25 @@
--- A cleared half lists no row. Assumes nothing.
+-- A cleared area lists no row. Assumes nothing.
 use mathlib.Core.Path.{_≡_, _∙_}
 use mathlib.Core.List.{List, []}
 use mathlib.Core.Bool.{Bool}
 use Prim.Native.Nat.{ℕ, _≤_, _<_}
 use native.Mathlib.Omega.{arith}
 use lib.ListN.{length, getD, drop, replicate, length-append, length-drop, length-replicate, getD-replicate, List·getD-append}
-use Rattle.placed_rows.specs.Rows.{none}
+use Rattle.theory.specs.Dictionary.{none}
 use Rattle.forest.specs.Words.{Mem, In, Indexed}
 use Rattle.forest.specs.Growth.{cleared}
 use Rattle.forest.proofs.Walking.{walk-out}
 
-pub length-cleared : (half : List ℕ) → 8448 ≤ length half → length (cleared half) ≡ length half
+pub length-cleared : (area : List ℕ) → 8448 ≤ length area → length (cleared area) ≡ length area
 unfolding cleared
-length-cleared half h = length-append (replicate 8448 none) (drop 8448 half) ∙ omega (arith, length-replicate 8448 none, length-drop 8448 half)
+length-cleared area h = length-append (replicate 8448 none) (drop 8448 area) ∙ omega (arith, length-replicate 8448 none, length-drop 8448 area)
 
-head-none : (half : List ℕ) (h : ℕ) → h < 8448 → getD (cleared half) h 0 ≡ none
+head-none : (area : List ℕ) (h : ℕ) → h < 8448 → getD (cleared area) h 0 ≡ none
 unfolding cleared
-head-none half h l = List·getD-append (replicate 8448 none) (drop 8448 half) 0 h (omega (arith, length-replicate 8448 none)) ∙ getD-replicate 8448 h none 0 l
+head-none area h l = List·getD-append (replicate 8448 none) (drop 8448 area) 0 h (omega (arith, length-replicate 8448 none)) ∙ getD-replicate 8448 h none 0 l
 
-pub cleared-none : (R : ℕ → List ℕ) (n : ℕ) (half : List ℕ) (S : ℕ → Bool) → R none ≡ [] → n ≤ 4096 → ((d : ℕ) → In S d → ⊥) → Indexed R n (cleared half) S
-cleared-none R n half S root N void = record {
+pub cleared-none : (R : ℕ → List ℕ) (n : ℕ) (area : List ℕ) (S : ℕ → Bool) → R none ≡ [] → n ≤ 4096 → ((d : ℕ) → In S d → ⊥) → Indexed R n (cleared area) S
+cleared-none R n area S root N void = record {
   par = λ d. none;
   forest = record {
     root = root;
@@ -32,5 +32,5 @@ cleared-none R n half S root N void = record {
   listed = λ d s. absurd (void d s);
   marks = λ d s. absurd (void d s);
   single = λ d s. absurd (void d s);
-  only = λ h w l m. absurd (let z : Mem w [] = rw (head-none half h (omega arith), walk-out n (cleared half) n none (omega arith)) at m in z);
+  only = λ h w l m. absurd (let z : Mem w [] = rw (head-none area h (omega arith), walk-out n (cleared area) n none (omega arith)) at m in z);
 }

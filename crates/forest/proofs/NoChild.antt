@@ -7,7 +7,7 @@ use native.Mathlib.Nat.{eq-or-lt-of-le}
 use native.Mathlib.Decide.{decLt}
 use native.Mathlib.Omega.{arith}
 use lib.ListN.{length}
-use Rattle.placed_rows.specs.Rows.{none}
+use Rattle.theory.specs.Dictionary.{none}
 use Rattle.placed_rows.specs.Texts.{Begins}
 use Rattle.placed_rows.proofs.Beginning.{through, both, same-length}
 use Rattle.placed_rows.proofs.Chains.{other}

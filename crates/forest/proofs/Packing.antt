@@ -7,7 +7,7 @@ use native.Mathlib.Decide.{ℕ-discrete, decLt}
 use native.Mathlib.Omega.{arith}
 use lib.ListN.{getD}
 use borrow.Author.Tests.{eq-eqb, ne-eqb}
-use Rattle.placed_rows.specs.Rows.{none}
+use Rattle.theory.specs.Dictionary.{none}
 use Rattle.marks.specs.Marks.{bitKey}
 use Rattle.forest.specs.Words.{word, tagAt, row-of, tag-of, more-of, bucketOf, childKey}
 

@@ -7,7 +7,7 @@ use Prim.Native.Nat.{ℕ, _+_, _-_, _≤_, _<_}
 use native.Mathlib.Omega.{arith}
 use lib.ListN.{length, length-append, length-drop, getD, drop, List·getD-append}
 use lib.Seq.{getD-drop, drop-append-seam}
-use Rattle.placed_rows.specs.Rows.{none}
+use Rattle.theory.specs.Dictionary.{none}
 use Rattle.placed_rows.specs.Texts.{Begins, begins}
 use Rattle.marks.specs.Marks.{marked}
 use Rattle.placed_rows.proofs.Beginning.{true-false, begins-split, begins-append, begins-length, beyond, cancel}
@@ -31,7 +31,7 @@ pub record Tail (R : ℕ → List ℕ) (p : ℕ) (rest : List ℕ) (d : ℕ) : T
   pub byte : getD (R d) (length (R p)) 0 ≡ getD rest 0 0
   pub split : R p ++ rest ≡ R d ++ drop (length (R d) - length (R p)) rest
 
-module _ (R : ℕ → List ℕ) (n : ℕ) (half : List ℕ) (S : ℕ → Bool) (I : Indexed R n half S) (p : ℕ) (rest : List ℕ) where
+module _ (R : ℕ → List ℕ) (n : ℕ) (area : List ℕ) (S : ℕ → Bool) (I : Indexed R n area S) (p : ℕ) (rest : List ℕ) where
   module _ (d : ℕ) (g : Child R (I .par) (In S) p rest d) where
     start : Begins (R p) (R d)
     start = rw (g .under) at (I .forest .prefix d (g .in-K) .begins)
@@ -95,26 +95,26 @@ module _ (R : ℕ → List ℕ) (n : ℕ) (half : List ℕ) (S : ℕ → Bool) (
       (ap (λ (b : ℕ). bucketOf (I .par d) b) (sym e) ∙ h)
 
 -- the walk has come to the word x with k steps left: the words that are left stand in the bucket, and a child is among them
-pub record Search (R : ℕ → List ℕ) (n : ℕ) (half : List ℕ) (p len : ℕ) (rest : List ℕ) (x k : ℕ) : Type 0 where
-  pub kept : (w : ℕ) → Mem w (walk n half k x) → Mem w (walk n half n (getD half (bucketOf p (getD rest 0 0)) 0))
-  pub left : (S : ℕ → Bool) (a : At R n half S p len) (d : ℕ) → Child R (a .index .par) (In S) p rest d → Mem (wordOf R (a .index .par) d) (walk n half k x)
+pub record Search (R : ℕ → List ℕ) (n : ℕ) (area : List ℕ) (p len : ℕ) (rest : List ℕ) (x k : ℕ) : Type 0 where
+  pub kept : (w : ℕ) → Mem w (walk n area k x) → Mem w (walk n area n (getD area (bucketOf p (getD rest 0 0)) 0))
+  pub left : (S : ℕ → Bool) (a : At R n area S p len) (d : ℕ) → Child R (a .index .par) (In S) p rest d → Mem (wordOf R (a .index .par) d) (walk n area k x)
 
-module _ (R : ℕ → List ℕ) (n : ℕ) (half : List ℕ) (p len : ℕ) (rest : List ℕ) where
-  next-byte : (S : ℕ → Bool) (I : Indexed R n half S) (d : ℕ) → Child R (I .par) (In S) p rest d → byteOf R (I .par) d ≡ getD rest 0 0
-  next-byte S I d g = ap (λ (i : ℕ). getD (R d) (length (R i)) 0) (g .under) ∙ tail R n half S I p rest d g .byte
+module _ (R : ℕ → List ℕ) (n : ℕ) (area : List ℕ) (p len : ℕ) (rest : List ℕ) where
+  next-byte : (S : ℕ → Bool) (I : Indexed R n area S) (d : ℕ) → Child R (I .par) (In S) p rest d → byteOf R (I .par) d ≡ getD rest 0 0
+  next-byte S I d g = ap (λ (i : ℕ). getD (R d) (length (R i)) 0) (g .under) ∙ tail R n area S I p rest d g .byte
 
-  pub search-start : (h : ℕ) → h ≡ bucketOf p (getD rest 0 0) → Search R n half p len rest (getD half h 0) n
+  pub search-start : (h : ℕ) → h ≡ bucketOf p (getD rest 0 0) → Search R n area p len rest (getD area h 0) n
   search-start h e = rw e (record { kept = λ w m. m; left = begin })
     where
-      begin : (S : ℕ → Bool) (a : At R n half S p len) (d : ℕ) → Child R (a .index .par) (In S) p rest d → Mem (wordOf R (a .index .par) d) (walk n half n (getD half (bucketOf p (getD rest 0 0)) 0))
+      begin : (S : ℕ → Bool) (a : At R n area S p len) (d : ℕ) → Child R (a .index .par) (In S) p rest d → Mem (wordOf R (a .index .par) d) (walk n area n (getD area (bucketOf p (getD rest 0 0)) 0))
       begin S a d g =
           let I = a .index in
           let b = next-byte S I d g in
           let h : home R (I .par) d ≡ bucketOf p (getD rest 0 0) = λ i. bucketOf (g .under i) (b i) in
-          walk-more n half (count S n) n (getD half (bucketOf p (getD rest 0 0)) 0) (wordOf R (I .par) d) (count-le S n) (rw h at (I .listed d (g .in-K)))
+          walk-more n area (count S n) n (getD area (bucketOf p (getD rest 0 0)) 0) (wordOf R (I .par) d) (count-le S n) (rw h at (I .listed d (g .in-K)))
 
   -- a word of the bucket, as the test takes it
-  tested : (S : ℕ → Bool) (a : At R n half S p len) (x d : ℕ) → In S d → x ≡ wordOf R (a .index .par) d
+  tested : (S : ℕ → Bool) (a : At R n area S p len) (x d : ℕ) → In S d → x ≡ wordOf R (a .index .par) d
       → (byteOf R (a .index .par) d ≡ getD rest 0 0 → a .index .par d ≡ p) → WordOf R n p len rest x d (a .index .par d)
   tested S a x d s e t = record {
     below = a .index .below d s;
@@ -124,21 +124,21 @@ module _ (R : ℕ → List ℕ) (n : ℕ) (half : List ℕ) (p len : ℕ) (rest 
     told = λ c. (t c, ap (λ (q : ℕ). length (R q)) (t c) ∙ sym (a .size));
   }
 
-  pub search-step : (x i k : ℕ) → i ≡ row-of x → 0 < k → i < n → Fits R n p len rest x false → Search R n half p len rest x k
-      → Search R n half p len rest (getD half (8448 + i) 0) (k - 1)
+  pub search-step : (x i k : ℕ) → i ≡ row-of x → 0 < k → i < n → Fits R n p len rest x false → Search R n area p len rest x k
+      → Search R n area p len rest (getD area (8448 + i) 0) (k - 1)
   search-step x i k ix h l miss s = rw ix (record {
-    kept = λ w m. s .kept w (rw (walk-left n half k x h (omega arith)) (inr m));
-    left = λ S a d g. ⊎-elim (λ z. absurd (no S a d g z)) (λ z. z) (rw (walk-left n half k x h (omega arith)) at (s .left S a d g));
+    kept = λ w m. s .kept w (rw (walk-left n area k x h (omega arith)) (inr m));
+    left = λ S a d g. ⊎-elim (λ z. absurd (no S a d g z)) (λ z. z) (rw (walk-left n area k x h (omega arith)) at (s .left S a d g));
   })
     where
-      no : (S : ℕ → Bool) (a : At R n half S p len) (d : ℕ) → Child R (a .index .par) (In S) p rest d → wordOf R (a .index .par) d ≡ x → ⊥
+      no : (S : ℕ → Bool) (a : At R n area S p len) (d : ℕ) → Child R (a .index .par) (In S) p rest d → wordOf R (a .index .par) d ≡ x → ⊥
       no S a d g z =
-          let t = tail R n half S (a .index) p rest d g in
+          let t = tail R n area S (a .index) p rest d g in
           miss .no d (a .index .par d) (tested S a x d (g .in-K) (sym z) (λ _. g .under)) refl
           (record { under = g .under; from = ap (λ (q : ℕ). length (R q)) (g .under) ∙ sym (a .size); on = rw (a .size) (t .on) })
 
   pub search-hit : (x i k l : ℕ) → i ≡ row-of x → 0 < k → i < n → n ≤ 4096 → l ≡ len + more-of x → getD rest 0 0 < 256 → Fits R n p len rest x true
-      → Search R n half p len rest x k → ChildIs R n half p len rest (row-of x) l
+      → Search R n area p len rest x k → ChildIs R n area p len rest (row-of x) l
   search-hit x i k l ix h b N lx byte hit s = record {
     bound = inr (record {
       below = omega arith;
@@ -149,42 +149,42 @@ module _ (R : ℕ → List ℕ) (n : ℕ) (half : List ℕ) (p len : ℕ) (rest 
     complete = λ z. absurd (omega arith);
   }
     where
-      found : (S : ℕ → Bool) (a : At R n half S p len) → Child R (a .index .par) (In S) p rest (row-of x) × (l ≡ length (R (row-of x)))
+      found : (S : ℕ → Bool) (a : At R n area S p len) → Child R (a .index .par) (In S) p rest (row-of x) × (l ≡ length (R (row-of x)))
       found S a =
           let I = a .index in
-          let m = I .only (bucketOf p (getD rest 0 0)) x (bucket-small p (getD rest 0 0) byte) (s .kept x (rw (walk-left n half k x h (omega arith)) (inl refl))) in
+          let m = I .only (bucketOf p (getD rest 0 0)) x (bucket-small p (getD rest 0 0) byte) (s .kept x (rw (walk-left n area k x h (omega arith)) (inl refl))) in
           let d = m .row in
-          let W = tested S a x d (m .in-S) (m .is) (told R n half S I p rest (a .known) d (m .in-S) (m .home)) in
+          let W = tested S a x d (m .in-S) (m .is) (told R n area S I p rest (a .known) d (m .in-S) (m .home)) in
           let y = hit .yes d (I .par d) W refl in
           let z = W .below in
           let f = W .shorter in
           let rd : row-of x ≡ d = ap (λ (v : ℕ). row-of v) (m .is) ∙ word-row d _ _ (omega arith) in
           let md : more-of x ≡ length (R d) - length (R (I .par d)) = ap (λ (v : ℕ). more-of v) (m .is) ∙ word-more d _ (length (R d) - length (R (I .par d))) (omega arith) (omega arith) in
           let ld : l ≡ length (R d) = omega (arith, y .from) in
-          rw rd (is-child R n half S I p rest d (m .in-S) (y .under) (sym (ap (λ (v : ℕ). begins (drop v (R d)) rest) (a .size)) ∙ y .on), ld)
+          rw rd (is-child R n area S I p rest d (m .in-S) (y .under) (sym (ap (λ (v : ℕ). begins (drop v (R d)) rest) (a .size)) ∙ y .on), ld)
 
   -- the first word of the bucket, where its row is one byte longer
-  pub search-one : (x h l : ℕ) → h ≡ bucketOf p (getD rest 0 0) → x ≡ getD half h 0 → OneLonger x (getD rest 0 0) → row-of x < n → n ≤ 4096 → getD rest 0 0 < 256 → 0 < length rest → l ≡ len + 1
-      → ChildIs R n half p len rest (row-of x) l
+  pub search-one : (x h l : ℕ) → h ≡ bucketOf p (getD rest 0 0) → x ≡ getD area h 0 → OneLonger x (getD rest 0 0) → row-of x < n → n ≤ 4096 → getD rest 0 0 < 256 → 0 < length rest → l ≡ len + 1
+      → ChildIs R n area p len rest (row-of x) l
   search-one x h l hi xi o b N byte room lx =
       search-hit x (row-of x) n l refl (omega arith) b N (omega (arith, o .one)) byte (fits-one R n p len rest x N (omega (arith, o .byte)) (o .one) room) (rw (sym xi) at (search-start h hi))
 
-  nothing : (l : ℕ) → ((S : ℕ → Bool) (a : At R n half S p len) (d : ℕ) → Child R (a .index .par) (In S) p rest d → ⊥) → ChildIs R n half p len rest none l
+  nothing : (l : ℕ) → ((S : ℕ → Bool) (a : At R n area S p len) (d : ℕ) → Child R (a .index .par) (In S) p rest d → ⊥) → ChildIs R n area p len rest none l
   nothing l h = record { bound = inl refl; sound = λ z. absurd (z refl); complete = λ _. h }
 
-  pub search-over : (x k l : ℕ) → walk n half k x ≡ [] → Search R n half p len rest x k → ChildIs R n half p len rest none l
+  pub search-over : (x k l : ℕ) → walk n area k x ≡ [] → Search R n area p len rest x k → ChildIs R n area p len rest none l
   search-over x k l e s = nothing l (λ S a d g. rw e at (s .left S a d g))
 
   -- where prefix and next byte are not marked there is no child
-  pub search-unmarked : (l : ℕ) → marked half marksFrom (childKey p (getD rest 0 0)) ≡ false → ChildIs R n half p len rest none l
+  pub search-unmarked : (l : ℕ) → marked area marksFrom (childKey p (getD rest 0 0)) ≡ false → ChildIs R n area p len rest none l
   search-unmarked l e = nothing l (λ S a d g.
       let I = a .index in
       let b = next-byte S I d g in
-      true-false (sym (I .marks d (g .in-K)) ∙ (λ i. marked half marksFrom (childKey (g .under i) (b i))) ∙ e))
+      true-false (sym (I .marks d (g .in-K)) ∙ (λ i. marked area marksFrom (childKey (g .under i) (b i))) ∙ e))
 
-  pub search-empty : (l : ℕ) → length rest ≡ 0 → ChildIs R n half p len rest none l
+  pub search-empty : (l : ℕ) → length rest ≡ 0 → ChildIs R n area p len rest none l
   search-empty l e = nothing l (λ S a d g.
-      let t = tail R n half S (a .index) p rest d g in
+      let t = tail R n area S (a .index) p rest d g in
       let v = t .longer in
       let z = begins-length (drop (length (R p)) (R d)) rest (begins-split (drop (length (R p)) (R d)) rest (t .on)) in
       omega (arith, length-drop (length (R p)) (R d)))

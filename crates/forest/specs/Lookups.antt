@@ -1,4 +1,4 @@
--- What a lookup in the front half answers: on any contents a bounded answer, and where the half lists the rows of a
+-- What a lookup in the rows' part answers: on any contents a bounded answer, and where the area lists the rows of a
 -- set S, the true one. Assumes nothing.
 use mathlib.Core.Path.{_≡_}
 use mathlib.Core.List.{List, [], _∷_, _++_}
@@ -6,7 +6,7 @@ use mathlib.Core.Logic.{_⊎_}
 use mathlib.Core.Bool.{Bool, true, false}
 use Prim.Native.Nat.{ℕ, _+_, _-_, _≤_, _<_}
 use lib.ListN.{length, getD, drop}
-use Rattle.placed_rows.specs.Rows.{none}
+use Rattle.theory.specs.Dictionary.{none}
 use Rattle.placed_rows.specs.Texts.{Begins, begins}
 use Rattle.placed_rows.specs.Longest.{Known, Longest}
 use Rattle.forest.specs.Words.{word, tagAt, row-of, tag-of, more-of, In, Indexed}
@@ -38,9 +38,9 @@ pub record Child (R : ℕ → List ℕ) (par : ℕ → ℕ) (K : ℕ → Type 0)
   pub under : par d ≡ p
   pub on : Begins (R d) (R p ++ rest)
 
--- the half lists the rows of S, and p, of len bytes, is one of them, or none, of no bytes
-pub record At (R : ℕ → List ℕ) (n : ℕ) (half : List ℕ) (S : ℕ → Bool) (p len : ℕ) : Type 0 where
-  pub index : Indexed R n half S
+-- the area lists the rows of S, and p, of len bytes, is one of them, or none, of no bytes
+pub record At (R : ℕ → List ℕ) (n : ℕ) (area : List ℕ) (S : ℕ → Bool) (p len : ℕ) : Type 0 where
+  pub index : Indexed R n area S
   pub known : Known (In S) p
   pub size : len ≡ length (R p)
 
@@ -51,11 +51,11 @@ pub record Step (n len room r l : ℕ) : Type 0 where
   pub fits : l ≤ len + room
 
 -- r is the child of p, of len bytes, that goes on as rest does, and l its length; none where there is no such child
-pub record ChildIs (R : ℕ → List ℕ) (n : ℕ) (half : List ℕ) (p len : ℕ) (rest : List ℕ) (r l : ℕ) : Type 0 where
+pub record ChildIs (R : ℕ → List ℕ) (n : ℕ) (area : List ℕ) (p len : ℕ) (rest : List ℕ) (r l : ℕ) : Type 0 where
   pub bound : (r ≡ none) ⊎ Step n len (length rest) r l
-  pub sound : (r ≡ none → ⊥) → (S : ℕ → Bool) (a : At R n half S p len)
+  pub sound : (r ≡ none → ⊥) → (S : ℕ → Bool) (a : At R n area S p len)
       → Child R (a .index .par) (In S) p rest r × (l ≡ length (R r))
-  pub complete : r ≡ none → (S : ℕ → Bool) (a : At R n half S p len) (d : ℕ) → Child R (a .index .par) (In S) p rest d
+  pub complete : r ≡ none → (S : ℕ → Bool) (a : At R n area S p len) (d : ℕ) → Child R (a .index .par) (In S) p rest d
       → ⊥
 
 -- w is the word of a row that is one byte longer than its prefix, and this byte is b
@@ -63,13 +63,13 @@ pub record OneLonger (w b : ℕ) : Type 0 where
   pub byte : tag-of w ≡ b
   pub one : more-of w ≡ 1
 
--- r is the row that is the byte b alone, where the half lists such a row
-pub record ByteRow (R : ℕ → List ℕ) (n : ℕ) (half : List ℕ) (b r : ℕ) : Type 0 where
+-- r is the row that is the byte b alone, where the area lists such a row
+pub record ByteRow (R : ℕ → List ℕ) (n : ℕ) (area : List ℕ) (b r : ℕ) : Type 0 where
   pub bound : (r ≡ none) ⊎ (r < n)
-  pub is : (S : ℕ → Bool) → Indexed R n half S → (d : ℕ) → In S d → R d ≡ b ∷ [] → r ≡ d
+  pub is : (S : ℕ → Bool) → Indexed R n area S → (d : ℕ) → In S d → R d ≡ b ∷ [] → r ≡ d
 
 -- r is the longest row that begins the bytes of from, len of them, followed by text, and l its length
-pub record Descent (R : ℕ → List ℕ) (n : ℕ) (half : List ℕ) (from len : ℕ) (text : List ℕ) (r l : ℕ) : Type 0 where
+pub record Descent (R : ℕ → List ℕ) (n : ℕ) (area : List ℕ) (from len : ℕ) (text : List ℕ) (r l : ℕ) : Type 0 where
   pub bound : ((r ≡ from) × (l ≡ len)) ⊎ ((r < n) × (len < l))
   pub room : l ≤ len + length text
-  pub longest : (S : ℕ → Bool) → At R n half S from len → Longest R (In S) (R from ++ text) r × (l ≡ length (R r))
+  pub longest : (S : ℕ → Bool) → At R n area S from len → Longest R (In S) (R from ++ text) r × (l ≡ length (R r))

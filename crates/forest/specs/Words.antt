@@ -1,4 +1,4 @@
--- The arrangement of the front half of the search area: 4,352 heads of buckets, then 4,096 numbers of marks, one for
+-- The arrangement of the front of the search area: 4,352 heads of buckets, then 4,096 numbers of marks, one for
 -- each row, then 4,096 links. A bucket has the rows of one hash of prefix and next byte. A head or a link holds a
 -- word, which packs a row, its tag and by how much it is longer than its prefix, or none. A prefix and a next byte
 -- that are not marked have no row. Assumes nothing.
@@ -11,7 +11,7 @@ use lib.ListN.{length, getD}
 use lib.Dec.{ltb, eqb}
 use Rattle.marks.specs.Layout.{rowMarks, links}
 use Rattle.marks.specs.Marks.{marked, bitKey}
-use Rattle.placed_rows.specs.Rows.{none}
+use Rattle.theory.specs.Dictionary.{none}
 use Rattle.placed_rows.specs.Longest.{Prefix}
 
 -- rows R, of which K says which are meant, with their prefixes par: a forest in which a row stands under its prefix
@@ -51,10 +51,10 @@ marksFrom = rowMarks
 
 -- the words from x on, by the links, at most k of them
 unfoldable pub walk : ℕ → List ℕ → ℕ → ℕ → List ℕ
-walk n half zero x = []
-walk n half (suc k) x = elim (ltb (x % 8192) n) [
+walk n area zero x = []
+walk n area (suc k) x = elim (ltb (x % 8192) n) [
   | true ↦ x
-      ∷ walk n half k (getD half (links + x % 8192) 0)
+      ∷ walk n area k (getD area (links + x % 8192) 0)
   | false ↦ []
 ]
 
@@ -87,15 +87,15 @@ pub record Entry (R : ℕ → List ℕ) (par : ℕ → ℕ) (S : ℕ → Bool) (
   pub is : w ≡ wordOf R par row
   pub home : home R par row ≡ h
 
--- the half lists the rows of S: each is marked and stands in its bucket, within as many steps as S has rows; a row of
+-- the area lists the rows of S: each is marked and stands in its bucket, within as many steps as S has rows; a row of
 -- one byte stands first; and no other word stands in a bucket
-pub record Indexed (R : ℕ → List ℕ) (n : ℕ) (half : List ℕ) (S : ℕ → Bool) : Type 0 where
+pub record Indexed (R : ℕ → List ℕ) (n : ℕ) (area : List ℕ) (S : ℕ → Bool) : Type 0 where
   pub par : ℕ → ℕ
   pub forest : Forest R par (In S)
   pub few : n ≤ 4096
   pub below : (d : ℕ) → In S d → d < n
   pub bytes : (d : ℕ) → In S d → byteOf R par d < 256
-  pub listed : (d : ℕ) → In S d → Mem (wordOf R par d) (walk n half (count S n) (getD half (home R par d) 0))
-  pub marks : (d : ℕ) → In S d → marked half marksFrom (childKey (par d) (byteOf R par d)) ≡ true
-  pub single : (d : ℕ) → In S d → length (R d) ≡ 1 → getD half (home R par d) 0 ≡ wordOf R par d
-  pub only : (h w : ℕ) → h < rowMarks → Mem w (walk n half n (getD half h 0)) → Entry R par S h w
+  pub listed : (d : ℕ) → In S d → Mem (wordOf R par d) (walk n area (count S n) (getD area (home R par d) 0))
+  pub marks : (d : ℕ) → In S d → marked area marksFrom (childKey (par d) (byteOf R par d)) ≡ true
+  pub single : (d : ℕ) → In S d → length (R d) ≡ 1 → getD area (home R par d) 0 ≡ wordOf R par d
+  pub only : (h w : ℕ) → h < rowMarks → Mem w (walk n area n (getD area h 0)) → Entry R par S h w

@@ -1,11 +1,12 @@
-// The front half of the search area: the rows of a phrase file as a forest under "next shorter prefix".
+// The front of the search area: the rows of a phrase file as a forest under "next shorter prefix".
 ghost use mathlib.Core.Path.{_≡_};
 ghost use mathlib.Core.Bool.{true};
 ghost use Prim.Native.Nat.{_+_, _-_, _%_, _<_, _≤_};
 ghost use mathlib.Core.Logic.{_⊎_};
 ghost use lib.ListN.{length, getD, drop};
 ghost use Rattle.marks.specs.Layout.{rowMarks, hints};
-ghost use Rattle.placed_rows.specs.Rows.{none, row, Placed};
+ghost use Rattle.theory.specs.Dictionary.{none};
+ghost use Rattle.placed_rows.specs.Rows.{row, Placed};
 ghost use Rattle.placed_rows.specs.Texts.{Small};
 ghost use Rattle.marks.specs.Marks.{marked};
 ghost use Rattle.forest.specs.Words.{word, tagAt, row-of, more-of, bucketOf, childKey, marksFrom};
@@ -79,11 +80,11 @@ fn child_key(p: u32, b: u8) -> usize
 }
 
 // Whether the prefix p and the next byte b are marked, by one bit: else no row has them.
-fn may_have_child(half: &[u32], p: u32, b: u8) -> bool
-    requires { ⌜ hints ≤ length (now half) ⌝ }
-    ensures { λ r. ⌜ r ≡ marked (now (half .entry)) marksFrom (childKey p b) ⌝ }
+fn may_have_child(area: &[u32], p: u32, b: u8) -> bool
+    requires { ⌜ hints ≤ length (now area) ⌝ }
+    ensures { λ r. ⌜ r ≡ marked (now (area .entry)) marksFrom (childKey p b) ⌝ }
 {
-    marks::is_bit_marked(half, ROW_MARKS, p as usize % 4096, b as usize % 32)
+    marks::is_bit_marked(area, ROW_MARKS, p as usize % 4096, b as usize % 32)
 }
 
 // Is w the word of a row whose prefix is p, of len bytes, and that goes on as the text from at on does? The bucket is
@@ -139,7 +140,7 @@ fn listed_child(
     file: &[u8],
     places: &[u32],
     n: usize,
-    half: &[u32],
+    area: &[u32],
     first: u32,
     p: u32,
     len: usize,
@@ -147,10 +148,10 @@ fn listed_child(
     at: usize,
 ) -> Match
     requires { ⌜ Placed (now file) (now places) n ⌝ }
-    requires { ⌜ (hints ≤ length (now half)) × ((at < length (now text)) ×
-        (first ≡ getD (now half) (bucketOf p (getD (now text) at 0)) 0)) ⌝ }
+    requires { ⌜ (hints ≤ length (now area)) × ((at < length (now text)) ×
+        (first ≡ getD (now area) (bucketOf p (getD (now text) at 0)) 0)) ⌝ }
     requires { ⌜ (getD (now text) at 0 < 256) × (len + (length (now text) - at) < 18446744073709551616) ⌝ }
-    ensures { λ r. ⌜ ChildIs (row (now (file .entry)) (now (places .entry)) n) n (now (half .entry)) p len
+    ensures { λ r. ⌜ ChildIs (row (now (file .entry)) (now (places .entry)) n) n (now (area .entry)) p len
         (drop at (now (text .entry))) (r .row) (r .len) ⌝ }
 {
     let mut w = first;
@@ -170,7 +171,7 @@ fn listed_child(
         if left == 0 {
             return no_match();
         }
-        w = half[LINKS + i];
+        w = area[LINKS + i];
     }
 }
 
@@ -179,7 +180,7 @@ fn bucket_child(
     file: &[u8],
     places: &[u32],
     n: usize,
-    half: &[u32],
+    area: &[u32],
     first: u32,
     p: u32,
     len: usize,
@@ -187,10 +188,10 @@ fn bucket_child(
     at: usize,
 ) -> Match
     requires { ⌜ Placed (now file) (now places) n ⌝ }
-    requires { ⌜ (hints ≤ length (now half)) × ((at < length (now text)) ×
-        (first ≡ getD (now half) (bucketOf p (getD (now text) at 0)) 0)) ⌝ }
+    requires { ⌜ (hints ≤ length (now area)) × ((at < length (now text)) ×
+        (first ≡ getD (now area) (bucketOf p (getD (now text) at 0)) 0)) ⌝ }
     requires { ⌜ len + (length (now text) - at) < 18446744073709551616 ⌝ }
-    ensures { λ r. ⌜ ChildIs (row (now (file .entry)) (now (places .entry)) n) n (now (half .entry)) p len
+    ensures { λ r. ⌜ ChildIs (row (now (file .entry)) (now (places .entry)) n) n (now (area .entry)) p len
         (drop at (now (text .entry))) (r .row) (r .len) ⌝ }
 {
     let next = text[at];
@@ -203,16 +204,16 @@ fn bucket_child(
             len: len + 1,
         };
     }
-    listed_child(file, places, n, half, first, p, len, text, at)
+    listed_child(file, places, n, area, first, p, len, text, at)
 }
 
 // The row that is the byte b alone, where there is one: it is first in its bucket.
-pub fn byte_row(file: &[u8], places: &[u32], n: usize, half: &[u32], b: u8) -> u32
+pub fn byte_row(file: &[u8], places: &[u32], n: usize, area: &[u32], b: u8) -> u32
     requires { ⌜ Placed (now file) (now places) n ⌝ }
-    requires { ⌜ hints ≤ length (now half) ⌝ }
-    ensures { λ r. ⌜ ByteRow (row (now (file .entry)) (now (places .entry)) n) n (now (half .entry)) b r ⌝ }
+    requires { ⌜ hints ≤ length (now area) ⌝ }
+    ensures { λ r. ⌜ ByteRow (row (now (file .entry)) (now (places .entry)) n) n (now (area .entry)) b r ⌝ }
 {
-    let w = half[root_bucket(b)];
+    let w = area[root_bucket(b)];
     if n <= row_of(w) {
         return NONE;
     }
@@ -224,31 +225,31 @@ pub fn child(
     file: &[u8],
     places: &[u32],
     n: usize,
-    half: &[u32],
+    area: &[u32],
     p: u32,
     len: usize,
     text: &[u8],
     at: usize,
 ) -> Match
     requires { ⌜ Placed (now file) (now places) n ⌝ }
-    requires { ⌜ (p < n) × ((hints ≤ length (now half)) × (at ≤ length (now text))) ⌝ }
+    requires { ⌜ (p < n) × ((hints ≤ length (now area)) × (at ≤ length (now text))) ⌝ }
     requires { ⌜ len + (length (now text) - at) < 18446744073709551616 ⌝ }
-    ensures { λ r. ⌜ ChildIs (row (now (file .entry)) (now (places .entry)) n) n (now (half .entry)) p len
+    ensures { λ r. ⌜ ChildIs (row (now (file .entry)) (now (places .entry)) n) n (now (area .entry)) p len
         (drop at (now (text .entry))) (r .row) (r .len) ⌝ }
 {
     if text.len() <= at {
         return no_match();
     }
     let next = text[at];
-    if !may_have_child(half, p, next) {
+    if !may_have_child(area, p, next) {
         return no_match();
     }
     bucket_child(
         file,
         places,
         n,
-        half,
-        half[bucket(p, next)],
+        area,
+        area[bucket(p, next)],
         p,
         len,
         text,
@@ -261,16 +262,16 @@ pub fn descend(
     file: &[u8],
     places: &[u32],
     n: usize,
-    half: &[u32],
+    area: &[u32],
     from: u32,
     len: usize,
     text: &[u8],
     at: usize,
 ) -> Match
     requires { ⌜ Placed (now file) (now places) n ⌝ }
-    requires { ⌜ (from < n) × ((hints ≤ length (now half)) × (at ≤ length (now text))) ⌝ }
+    requires { ⌜ (from < n) × ((hints ≤ length (now area)) × (at ≤ length (now text))) ⌝ }
     requires { ⌜ len + (length (now text) - at) < 18446744073709551616 ⌝ }
-    ensures { λ r. ⌜ Descent (row (now (file .entry)) (now (places .entry)) n) n (now (half .entry)) from len
+    ensures { λ r. ⌜ Descent (row (now (file .entry)) (now (places .entry)) n) n (now (area .entry)) from len
         (drop at (now (text .entry))) (r .row) (r .len) ⌝ }
 {
     let mut best = from;
@@ -278,13 +279,13 @@ pub fn descend(
     while end < text.len() {
         let next = text[end];
         let size = len + (end - at);
-        if !may_have_child(half, best, next) {
+        if !may_have_child(area, best, next) {
             return Match {
                 row: best,
                 len: size,
             };
         }
-        let w = half[bucket(best, next)];
+        let w = area[bucket(best, next)];
         if n <= row_of(w) {
             return Match {
                 row: best,
@@ -296,7 +297,7 @@ pub fn descend(
             end += 1;
             continue;
         }
-        let m = child(file, places, n, half, best, size, text, end);
+        let m = child(file, places, n, area, best, size, text, end);
         let r = m.row;
         if r == NONE {
             return Match {
@@ -314,10 +315,10 @@ pub fn descend(
 }
 
 // The shortest row that begins the text from at on, with its length, or NONE.
-fn root_child(file: &[u8], places: &[u32], n: usize, half: &[u32], text: &[u8], at: usize) -> Match
+fn root_child(file: &[u8], places: &[u32], n: usize, area: &[u32], text: &[u8], at: usize) -> Match
     requires { ⌜ Placed (now file) (now places) n ⌝ }
-    requires { ⌜ (hints ≤ length (now half)) × (at ≤ length (now text)) ⌝ }
-    ensures { λ r. ⌜ ChildIs (row (now (file .entry)) (now (places .entry)) n) n (now (half .entry)) none 0
+    requires { ⌜ (hints ≤ length (now area)) × (at ≤ length (now text)) ⌝ }
+    ensures { λ r. ⌜ ChildIs (row (now (file .entry)) (now (places .entry)) n) n (now (area .entry)) none 0
         (drop at (now (text .entry))) (r .row) (r .len) ⌝ }
 {
     if text.len() <= at {
@@ -327,8 +328,8 @@ fn root_child(file: &[u8], places: &[u32], n: usize, half: &[u32], text: &[u8], 
         file,
         places,
         n,
-        half,
-        half[root_bucket(text[at])],
+        area,
+        area[root_bucket(text[at])],
         NONE,
         0,
         text,
@@ -337,27 +338,27 @@ fn root_child(file: &[u8], places: &[u32], n: usize, half: &[u32], text: &[u8], 
 }
 
 // The longest row that begins the text from at on, with its length, or NONE and 0.
-pub fn longest(file: &[u8], places: &[u32], n: usize, half: &[u32], text: &[u8], at: usize) -> Match
+pub fn longest(file: &[u8], places: &[u32], n: usize, area: &[u32], text: &[u8], at: usize) -> Match
     requires { ⌜ Placed (now file) (now places) n ⌝ }
-    requires { ⌜ (hints ≤ length (now half)) × (at ≤ length (now text)) ⌝ }
-    ensures { λ r. ⌜ Descent (row (now (file .entry)) (now (places .entry)) n) n (now (half .entry)) none 0
+    requires { ⌜ (hints ≤ length (now area)) × (at ≤ length (now text)) ⌝ }
+    ensures { λ r. ⌜ Descent (row (now (file .entry)) (now (places .entry)) n) n (now (area .entry)) none 0
         (drop at (now (text .entry))) (r .row) (r .len) ⌝ }
 {
-    let m = root_child(file, places, n, half, text, at);
+    let m = root_child(file, places, n, area, text, at);
     let r = m.row;
     if r == NONE {
         return Match { row: NONE, len: 0 };
     }
     let l = m.len;
-    descend(file, places, n, half, r, l, text, at + l)
+    descend(file, places, n, area, r, l, text, at + l)
 }
 
 // Where a word comes into bucket h: at its head where the bucket is empty, else at the link of its first word.
-fn place(half: &[u32], n: usize, h: usize) -> usize
-    requires { ⌜ (n ≤ 4096) × ((h < rowMarks) × (hints ≤ length (now half))) ⌝ }
-    ensures { λ r. ⌜ Small (placeOf (now (half .entry)) n h) hints r ⌝ }
+fn place(area: &[u32], n: usize, h: usize) -> usize
+    requires { ⌜ (n ≤ 4096) × ((h < rowMarks) × (hints ≤ length (now area))) ⌝ }
+    ensures { λ r. ⌜ Small (placeOf (now (area .entry)) n h) hints r ⌝ }
 {
-    let first = row_of(half[h]);
+    let first = row_of(area[h]);
     if n <= first {
         return h;
     }
@@ -365,13 +366,13 @@ fn place(half: &[u32], n: usize, h: usize) -> usize
 }
 
 // The word w of row c goes into bucket h: to its front where the bucket is empty, else behind its first word.
-fn push(half: &mut [u32], n: usize, h: usize, c: usize, w: u32)
-    requires { ⌜ (n ≤ 4096) × ((c < 4096) × ((h < rowMarks) × (hints ≤ length (now half)))) ⌝ }
-    ensures { λ r. ⌜ now (half .exit) ≡ pushed (now (half .entry)) n h c w ⌝ }
+fn push(area: &mut [u32], n: usize, h: usize, c: usize, w: u32)
+    requires { ⌜ (n ≤ 4096) × ((c < 4096) × ((h < rowMarks) × (hints ≤ length (now area)))) ⌝ }
+    ensures { λ r. ⌜ now (area .exit) ≡ pushed (now (area .entry)) n h c w ⌝ }
 {
-    let at = place(half, n, h);
-    half[LINKS + c] = half[at];
-    half[at] = w;
+    let at = place(area, n, h);
+    area[LINKS + c] = area[at];
+    area[at] = w;
 }
 
 // The bucket of the rows whose prefix is p, a row or NONE, and whose next byte is b.
@@ -385,33 +386,33 @@ fn bucket_of(p: u32, b: u8) -> usize
     bucket(p, b)
 }
 
-// Row c goes into the half, under the longest row in it that begins row c.
-pub fn insert(file: &[u8], places: &[u32], n: usize, half: &mut [u32], c: usize)
+// Row c goes into the area, under the longest row in it that begins row c.
+pub fn insert(file: &[u8], places: &[u32], n: usize, area: &mut [u32], c: usize)
     requires { ⌜ Placed (now file) (now places) n ⌝ }
-    requires { ⌜ (hints ≤ length (now half)) × ((c < n) × (length (row (now file) (now places) n c) ≤ 64)) ⌝ }
-    ensures { λ r. ⌜ Inserted (row (now (file .entry)) (now (places .entry)) n) n (now (half .entry)) c
-        (now (half .exit)) ⌝ }
+    requires { ⌜ (hints ≤ length (now area)) × ((c < n) × (length (row (now file) (now places) n c) ≤ 64)) ⌝ }
+    ensures { λ r. ⌜ Inserted (row (now (file .entry)) (now (places .entry)) n) n (now (area .entry)) c
+        (now (area .exit)) ⌝ }
 {
     let bytes = placed_rows::bytes_of(file, places, n, c);
-    let m = longest(file, places, n, half, bytes, 0);
+    let m = longest(file, places, n, area, bytes, 0);
     let p = m.row;
     let k = m.len;
     if k < bytes.len() {
         let next = bytes[k];
         let h = bucket_of(p, next);
-        marks::mark(half, ROW_MARKS, child_key(p, next));
-        push(half, n, h, c, word_of(c, tag_of(bytes, k), bytes.len() - k));
+        marks::mark(area, ROW_MARKS, child_key(p, next));
+        push(area, n, h, c, word_of(c, tag_of(bytes, k), bytes.len() - k));
     }
 }
 
 // Every bucket and every mark is emptied.
-pub fn clear(half: &mut [u32])
-    requires { ⌜ hints ≤ length (now half) ⌝ }
-    ensures { λ r. ⌜ now (half .exit) ≡ cleared (now (half .entry)) ⌝ }
+pub fn clear(area: &mut [u32])
+    requires { ⌜ hints ≤ length (now area) ⌝ }
+    ensures { λ r. ⌜ now (area .exit) ≡ cleared (now (area .entry)) ⌝ }
 {
     let mut i = 0;
     while i < LINKS {
-        half[i] = NONE;
+        area[i] = NONE;
         i += 1;
     }
 }

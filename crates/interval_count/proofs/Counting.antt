@@ -5,13 +5,13 @@ use mathlib.Core.List.{List}
 use Prim.Native.Nat.{ℕ, _+_, _-_, _*_, _≤_, _<_}
 use native.Mathlib.Omega.{arith}
 use lib.ListN.{length, getD}
-use Rattle.placed_rows.specs.Rows.{none}
+use Rattle.theory.specs.Dictionary.{none}
 use Rattle.theory.specs.Merge.{encode}
 use Rattle.theory.specs.Tree.{intervalCount}
 use Rattle.theory.specs.Backtracking.{start, run}
 use Rattle.bitfield.specs.Bits.{isSet, allSet}
-use Rattle.built.specs.Built.{dictionaryOf}
-use Rattle.built.proofs.Rows.{lawful-is}
+use Rattle.built_tables.specs.Built.{dictionaryOf}
+use Rattle.built_tables.proofs.Rows.{lawful-is}
 use Rattle.backtrack_encoder.specs.declared.BacktrackEncoder.{BacktrackEncoder}
 use Rattle.backtrack_encoder.specs.Steps.{Started, Stepped}
 use Rattle.backtrack_encoder.proofs.Sizes.{count-pos}
@@ -26,18 +26,18 @@ module _ (T : Tables) (n : ℕ) (piece codes numbers ends depths : List ℕ) (fr
   open Tables T using (file, places, area)
 
   -- what is known with so many steps left; `entry` is the work buffer at the start
-  pub record Counting (left : ℕ) (e : BacktrackEncoder) (work dead : List ℕ) : Type 0 where
+  pub record Counting (left : ℕ) (e : BacktrackEncoder) (work alive : List ℕ) : Type 0 where
     pub piece-ready : PieceReady T n piece codes numbers ends depths from to entry
-    pub running : Running T n piece entry left e work dead
+    pub running : Running T n piece entry left e work alive
 
-  pub counting-start : (e : BacktrackEncoder) (dead : List ℕ) → PieceReady T n piece codes numbers ends depths from to entry
-      → Started file places area n piece e → isSet dead ≡ allSet → Counting (2 * length piece) e entry dead
-  counting-start e dead R S a = record { piece-ready = R; running = running-start T n piece entry e dead (R .ready) S a }
+  pub counting-start : (e : BacktrackEncoder) (alive : List ℕ) → PieceReady T n piece codes numbers ends depths from to entry
+      → Started file places area n piece e → isSet alive ≡ allSet → Counting (2 * length piece) e entry alive
+  counting-start e alive R S a = record { piece-ready = R; running = running-start T n piece entry e alive (R .ready) S a }
 
-  module _ (left : ℕ) (e : BacktrackEncoder) (work dead : List ℕ) (C : Counting left e work dead) where
-    pub counting-step : (r : BacktrackEncoder) (work' dead' : List ℕ) → 0 < left
-        → Stepped T n piece e work dead r work' dead' → Counting (left - 1) r work' dead'
-    counting-step r work' dead' some K = record { piece-ready = C .piece-ready; running = running-step T n piece entry left e work dead (C .running) r work' dead' some K }
+  module _ (left : ℕ) (e : BacktrackEncoder) (work alive : List ℕ) (C : Counting left e work alive) where
+    pub counting-step : (r : BacktrackEncoder) (work' alive' : List ℕ) → 0 < left
+        → Stepped T n piece e work alive r work' alive' → Counting (left - 1) r work' alive'
+    counting-step r work' alive' some K = record { piece-ready = C .piece-ready; running = running-step T n piece entry left e work alive (C .running) r work' alive' some K }
 
     few : e .count ≤ e .pos
     few = count-pos file places n (C .piece-ready .ready .tables .places-ready) piece e work (C .running .ready)
@@ -89,7 +89,7 @@ module _ (T : Tables) (n : ℕ) (piece codes numbers ends depths : List ℕ) (fr
     pub counting-end : Bytes piece → (left ≡ 0) ⊎ (e .next ≡ none) → PieceCounts T n piece codes numbers ends depths from to entry (e .count) work
     unfolding intervalCount
     counting-end b o =
-        let K = running-end T n piece entry left e work dead (C .running) b o in
+        let K = running-end T n piece entry left e work alive (C .running) b o in
         record {
           few = omega (arith, K .few);
           work-length = K .work-length;

@@ -16,7 +16,7 @@ use Rattle.theory.specs.Backtracking.{State, codes, place}
 use Rattle.theory.proofs.PairCheck.{Lawful}
 use Rattle.theory.proofs.Backtracking.{Going}
 use Rattle.theory.proofs.Interval.{above↔numbers, interval-count}
-use Rattle.built.specs.Built.{dictionaryOf}
+use Rattle.built_tables.specs.Built.{dictionaryOf}
 use Rattle.backtrack_encoder.specs.declared.BacktrackEncoder.{BacktrackEncoder}
 use Rattle.backtrack_encoder.specs.Encoder.{stackOf, EncoderReady}
 use Rattle.backtrack_encoder.proofs.Stack.{stack-codes}

@@ -19,7 +19,7 @@ use Rattle.causes.specs.declared.Answer.the-variants.{Number}
 use Rattle.tables.specs.InForm.{isOut, formOf}
 use Rattle.tables.proofs.Readiness.{ready, form-rows}
 use Rattle.theory.specs.Tree.{intervalCount}
-use Rattle.built.specs.Built.{dictionaryOf, Built}
+use Rattle.built_tables.specs.Built.{dictionaryOf, Built}
 use Rattle.interval_prepare.specs.Tables.{intervalInForm}
 use Rattle.interval_prepare.specs.Answers.{tooShort, prepareRefusal, Prepares}
 use Rattle.interval_count.specs.Answers.{intervalRefusal, Counts}

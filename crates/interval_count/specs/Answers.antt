@@ -16,7 +16,7 @@ use Rattle.tables.specs.declared.Form.{Form}
 use Rattle.tables.specs.declared.Form.the-variants.{Rows, Out}
 use Rattle.tables.specs.InForm.{formOf}
 use Rattle.theory.specs.Tree.{intervalCount}
-use Rattle.built.specs.Built.{dictionaryOf, Built}
+use Rattle.built_tables.specs.Built.{dictionaryOf, Built}
 use Rattle.backtrack_encoder.specs.Encoder.{TextReady}
 use Rattle.interval_prepare.specs.Tables.{Prepared, intervalInForm}
 

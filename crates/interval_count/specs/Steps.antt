@@ -6,7 +6,7 @@ use mathlib.Core.Bool.{Bool, true}
 use Prim.Native.Nat.{ℕ, _+_, _-_, _≤_, _<_}
 use lib.ListN.{length, getD, take, drop}
 use Rattle.theory.specs.Tree.{intervalCount}
-use Rattle.built.specs.Built.{dictionaryOf, Built}
+use Rattle.built_tables.specs.Built.{dictionaryOf, Built}
 use Rattle.backtrack_encoder.specs.declared.BacktrackEncoder.{BacktrackEncoder}
 use Rattle.backtrack_encoder.specs.Encoder.{TextReady}
 use Rattle.interval_prepare.specs.Tables.{Prepared}

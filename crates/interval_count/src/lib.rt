@@ -138,7 +138,7 @@ fn count_piece(
         n (before piece) (before «last_codes») (before numbers) (before ends) (before depths) from to (before work)
         r (after work) ⌝ }
 {
-    let mut dead = all_set();
+    let mut alive = all_set();
     let mut encoder = backtrack_encoder::start(file, places, area, n, piece);
     let mut left = 2 * piece.len();
     while left > 0 {
@@ -156,7 +156,7 @@ fn count_piece(
             piece,
             encoder,
             work,
-            &mut dead,
+            &mut alive,
         );
         left -= 1;
         if meets(encoder, work, last_codes, numbers, ends, from, to) {

@@ -11,7 +11,7 @@ use Rattle.placed_rows.specs.Rows.{row}
 use Rattle.theory.specs.Table.{lastCode}
 use Rattle.theory.specs.Tree.{aboveIn, sizeBelow, childrenBelow, numberIn, number, end, parentOf}
 use Rattle.theory.proofs.Lists.{lt-or-ge, bool-cases, ltb-lt, ltb-ge}
-use Rattle.built.specs.Built.{dictionaryOf}
+use Rattle.built_tables.specs.Built.{dictionaryOf}
 use Rattle.end_code.specs.Tables.{RowReady}
 use Rattle.end_code.proofs.Sizes.{row-some, read-size}
 use Rattle.interval_prepare.specs.Steps.{parentIn, RowTable, ParentReady}

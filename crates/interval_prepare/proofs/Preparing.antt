@@ -15,10 +15,10 @@ use Rattle.theory.proofs.Tree.{tree-ind, number-le, end-le}
 use Rattle.theory.proofs.Interval.{treeNumber-is, treeEnd-is, depth-root, depth-child}
 use Rattle.tables.specs.Tables.{PairTables, withPrefixes}
 use Rattle.tables.proofs.Sweeps.{each-all}
-use Rattle.built.specs.Built.{dictionaryOf, Built}
-use Rattle.built.proofs.Rows.{lawful-is}
+use Rattle.built_tables.specs.Built.{dictionaryOf, Built}
+use Rattle.built_tables.proofs.Rows.{lawful-is}
 use Rattle.end_code.specs.Tables.{RowsTo}
-use Rattle.prefix_table.specs.LastCodes.{PrefixesReady, PrefixesAre}
+use Rattle.table_encoder.specs.LastCodes.{PrefixesReady, PrefixesAre}
 use Rattle.interval_prepare.specs.Steps.{parentIn, RowTable, SizesReady, SizesAre, TreeReady, TreeIs}
 use Rattle.interval_prepare.specs.Tables.{Prepared, codesInForm, treeInForm, intervalInForm}
 use Rattle.interval_prepare.specs.Answers.{CoreReady, CorePrepares}

@@ -14,7 +14,7 @@ use Rattle.causes.specs.Call.{Call, toNumber}
 use Rattle.phrase_file.specs.Form.{rows}
 use Rattle.tables.specs.Tables.{Tables, PairTables, withPrefixes}
 use Rattle.tables.specs.InForm.{isOut, formOf}
-use Rattle.built.specs.Built.{Built}
+use Rattle.built_tables.specs.Built.{Built}
 use Rattle.end_code.specs.Tables.{PartsInForm}
 use Rattle.interval_prepare.specs.Steps.{WrittenTo}
 use Rattle.interval_prepare.specs.Tables.{Prepared, intervalInForm}

@@ -6,7 +6,7 @@ use Prim.Native.Nat.{ℕ, zero, suc, _+_, _-_, _≤_, _<_}
 use lib.ListN.{length, getD, set, drop}
 use Rattle.theory.specs.Tree.{size, number, end}
 use Rattle.tables.specs.Ready.{PlacesReady}
-use Rattle.built.specs.Built.{dictionaryOf}
+use Rattle.built_tables.specs.Built.{dictionaryOf}
 use Rattle.end_code.specs.Tables.{FrontRows}
 
 -- a prefix's parent is the prefix without its last code, which stands in the table

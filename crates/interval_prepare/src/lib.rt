@@ -1,13 +1,15 @@
 // The preparation of interval tables: the first part of the source's interval_encoding.rs.
 ghost use mathlib.Core.Path.{_≡_};
-ghost use Rattle.interval_prepare.specs.Steps.{parentIn, ParentReady, OnesReady, Ones, AddReady, added, SizesReady, SizesAre, ChildReady, ChildPlaced, TreeReady, TreeIs};
+ghost use Rattle.interval_prepare.specs.Steps.{parentIn, ParentReady, OnesReady, Ones, AddReady, added};
+ghost use Rattle.interval_prepare.specs.Steps.{SizesReady, SizesAre, ChildReady, ChildPlaced, TreeReady};
+ghost use Rattle.interval_prepare.specs.Steps.{TreeIs};
 ghost use Rattle.interval_prepare.specs.Answers.{tooShort, CoreReady, CorePrepares, Prepares};
 ghost use Rattle.tables.specs.Tables.{lent, pairGiven, pairLent, before, after};
 use causes::Answer;
 use causes::Cause;
 use placed_rows::length_of;
 use placed_rows::wide;
-use prefix_table::encode_all_prefixes;
+use table_encoder::encode_all_prefixes;
 use tables::Form;
 
 // The length of the parent of the prefix of i bytes: the prefix without its last code; 0 where the code is longer.

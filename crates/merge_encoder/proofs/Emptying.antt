@@ -7,12 +7,11 @@ use Prim.Native.Nat.{ℕ, zero, suc, _+_, _-_, _/_, _%_, _≤_, _<_}
 use native.Mathlib.Omega.{arith}
 use lib.ListN.{length, getD, drop}
 use Rattle.bitfield.specs.Bits.{isSet}
-use Rattle.placed_rows.specs.Rows.{none}
-use Rattle.theory.specs.Dictionary.{Dictionary}
+use Rattle.theory.specs.Dictionary.{Dictionary, none}
 use Rattle.theory.specs.Paper.{pass, listed}
 use Rattle.theory.proofs.Lists.{bool-cases}
 use Rattle.theory.proofs.Pass.{pass-miss}
-use Rattle.built.specs.Built.{dictionaryOf, Built}
+use Rattle.built_tables.specs.Built.{dictionaryOf, Built}
 use Rattle.merge_encoder.specs.Encoding.{JoinsReady, WhenBuilt}
 use Rattle.merge_encoder.specs.Live.{kept, live}
 use Rattle.merge_encoder.specs.Steps.{JoinKey, KeyIs, Keyed, State, Waiting, During, Ran, RowJoined}

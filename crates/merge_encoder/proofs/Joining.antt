@@ -10,14 +10,13 @@ use lib.ListN.{length, length-append, length-set, getD, set}
 use lib.Seq.{getD-set-same, getD-set-other, drop-set-lt}
 use Rattle.bitfield.specs.Bits.{isSet, without}
 use Rattle.bitfield.proofs.Without.{without-same, without-other}
-use Rattle.placed_rows.specs.Rows.{none}
-use Rattle.theory.specs.Dictionary.{Dictionary}
+use Rattle.theory.specs.Dictionary.{Dictionary, none}
 use Rattle.theory.specs.Lists.{lastOr}
 use Rattle.theory.specs.Paper.{pass, listed}
 use Rattle.theory.proofs.Lists.{lt-or-ge, nil-cons, bool-cases, lastOr-append}
 use Rattle.theory.proofs.Stage.{listed-is, apart}
-use Rattle.built.specs.Built.{dictionaryOf, Built}
-use Rattle.built.proofs.Rows.{lawful-is}
+use Rattle.built_tables.specs.Built.{dictionaryOf, Built}
+use Rattle.built_tables.proofs.Rows.{lawful-is}
 use Rattle.merge_encoder.specs.Encoding.{JoinsReady, WhenBuilt, Codes}
 use Rattle.merge_encoder.specs.Live.{live, NextLive, LastLive}
 use Rattle.merge_encoder.specs.Queues.{Queued, Longer}

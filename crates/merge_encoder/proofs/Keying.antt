@@ -9,7 +9,7 @@ use native.Mathlib.Omega.{arith}
 use lib.ListN.{length, getD}
 use Rattle.bitfield.specs.Bits.{isSet, allSet}
 use Rattle.bitfield.proofs.Sets.{all-below}
-use Rattle.placed_rows.specs.Rows.{none}
+use Rattle.theory.specs.Dictionary.{none}
 use Rattle.theory.proofs.Lists.{lt-or-ge}
 use Rattle.merge_encoder.specs.Live.{live}
 use Rattle.merge_encoder.specs.Queues.{Queued, Queues}

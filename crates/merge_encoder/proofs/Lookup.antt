@@ -6,11 +6,12 @@ use Prim.Native.Nat.{ℕ, _+_, _-_, _<_}
 use native.Mathlib.Omega.{arith}
 use lib.ListN.{length, getD, take, drop}
 use lib.Seq.{drop-cons}
-use Rattle.placed_rows.specs.Rows.{none, row}
+use Rattle.theory.specs.Dictionary.{none}
+use Rattle.placed_rows.specs.Rows.{row}
 use Rattle.search_area.specs.Answers.{Found}
 use Rattle.theory.proofs.Merge.{distinct}
-use Rattle.built.specs.Built.{dictionaryOf, Built}
-use Rattle.built.proofs.Rows.{count-is, row-bytes, lawful-is, known}
+use Rattle.built_tables.specs.Built.{dictionaryOf, Built}
+use Rattle.built_tables.proofs.Rows.{count-is, row-bytes, lawful-is, known}
 use Rattle.merge_encoder.specs.Encoding.{RowsReady}
 use Rattle.merge_encoder.specs.Steps.{ByteCode}
 use Rattle.tables.specs.Tables.{tables}

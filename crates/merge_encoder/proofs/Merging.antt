@@ -9,12 +9,12 @@ use lib.ListN.{length, length-append, length-drop, List·getD-append, replicate,
 use lib.Seq.{drop-at}
 use Rattle.bitfield.specs.Bits.{isSet, allSet}
 use Rattle.bitfield.proofs.Sets.{all-below}
-use Rattle.placed_rows.specs.Rows.{none}
+use Rattle.theory.specs.Dictionary.{none}
 use Rattle.theory.specs.Merge.{encode}
 use Rattle.theory.specs.Paper.{stage, pass, listed}
 use Rattle.theory.proofs.Merge.{merge-is-stage}
-use Rattle.built.specs.Built.{dictionaryOf}
-use Rattle.built.proofs.Rows.{count-is, lawful-is}
+use Rattle.built_tables.specs.Built.{dictionaryOf}
+use Rattle.built_tables.proofs.Rows.{count-is, lawful-is}
 use Rattle.merge_encoder.specs.Encoding.{JoinsReady, WhenBuilt, EncodeReady, Encoded}
 use Rattle.merge_encoder.specs.Live.{live}
 use Rattle.merge_encoder.specs.Steps.{ByteCodes, FillReady, State, Waiting, RowJoined, passedBelow, Merged, Gathered}

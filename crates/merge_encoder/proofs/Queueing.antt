@@ -7,7 +7,7 @@ use native.Mathlib.Decide.{ℕ-discrete}
 use native.Mathlib.Omega.{arith}
 use lib.ListN.{length-set, length-replicate, getD-replicate, replicate, getD, set}
 use lib.Seq.{getD-set-same, getD-set-other}
-use Rattle.placed_rows.specs.Rows.{none}
+use Rattle.theory.specs.Dictionary.{none}
 use Rattle.theory.proofs.Lists.{lt-or-ge}
 use Rattle.merge_encoder.specs.Queues.{steps, Queued, Queues, Longer, PushReady, Pushed}
 

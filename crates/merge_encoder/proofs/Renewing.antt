@@ -10,17 +10,16 @@ use lib.Dec.{eqb}
 use lib.ListN.{length, length-set, getD}
 use lib.Seq.{getD-set-same, getD-set-other}
 use borrow.Author.Tests.{eqb-true}
-use Rattle.placed_rows.specs.Rows.{none}
-use Rattle.theory.specs.Dictionary.{Dictionary}
+use Rattle.theory.specs.Dictionary.{Dictionary, none}
 use Rattle.theory.specs.Paper.{listed}
 use Rattle.theory.proofs.Lists.{true-false, eqb-eq}
 use Rattle.theory.proofs.PairSteps.{listed-one}
 use Rattle.theory.proofs.Stage.{spell-hit}
 use Rattle.theory.proofs.Merge.{distinct}
-use Rattle.token_pair.specs.Pair.{PairReady, JoinReady, JoinIs}
-use Rattle.built.specs.Built.{dictionaryOf, Built}
-use Rattle.built.proofs.Rows.{count-is, places-ready, lawful-is, tells, distinct-rows}
-use Rattle.built.proofs.InForm.{ready}
+use Rattle.pair_check.specs.Pair.{PairReady, JoinReady, JoinIs}
+use Rattle.built_tables.specs.Built.{dictionaryOf, Built}
+use Rattle.built_tables.proofs.Rows.{count-is, places-ready, lawful-is, tells, distinct-rows}
+use Rattle.built_tables.proofs.InForm.{ready}
 use Rattle.merge_encoder.specs.Queues.{PushReady, Pushed}
 use Rattle.merge_encoder.specs.Steps.{JoinKey, RenewReady, Renewed, Later}
 use Rattle.tables.specs.Tables.{PairTables, withPrefixes}

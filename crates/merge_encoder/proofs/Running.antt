@@ -9,10 +9,10 @@ use native.Mathlib.Omega.{arith}
 use lib.ListN.{length, getD, drop}
 use Rattle.bitfield.specs.Bits.{isSet}
 use Rattle.bitfield.proofs.Without.{without-same, without-other}
-use Rattle.placed_rows.specs.Rows.{none}
+use Rattle.theory.specs.Dictionary.{none}
 use Rattle.theory.specs.Paper.{pass, listed}
 use Rattle.theory.proofs.Lists.{lt-or-ge, true-false}
-use Rattle.built.specs.Built.{Built}
+use Rattle.built_tables.specs.Built.{Built}
 use Rattle.merge_encoder.specs.Encoding.{JoinsReady, WhenBuilt}
 use Rattle.merge_encoder.specs.Live.{live, NextLive, LastLive}
 use Rattle.merge_encoder.specs.Queues.{Queued}

@@ -8,7 +8,7 @@ use native.Mathlib.Numerals.{add-one}
 use native.Mathlib.Omega.{arith}
 use lib.ListN.{length, length-set, length-replicate, getD-replicate, replicate, getD, take, drop, set}
 use lib.Seq.{append-snoc, getD-set-same, getD-set-other, take-suc-set, drop-set-lt, drop-cons, drop-length}
-use Rattle.placed_rows.specs.Rows.{none}
+use Rattle.theory.specs.Dictionary.{none}
 use Rattle.theory.specs.Merge.{byteCodes}
 use Rattle.theory.proofs.Lists.{lt-or-ge}
 use Rattle.merge_encoder.specs.Encoding.{WhenBuilt, Codes}

@@ -8,7 +8,7 @@ use native.Mathlib.Decide.{ℕ-discrete}
 use native.Mathlib.Omega.{arith}
 use lib.ListN.{length, getD, set}
 use lib.Seq.{getD-set-same, getD-set-other}
-use Rattle.placed_rows.specs.Rows.{none}
+use Rattle.theory.specs.Dictionary.{none}
 use Rattle.theory.proofs.Lists.{lt-or-ge, true-false}
 use Rattle.merge_encoder.specs.Live.{kept, live, NextLive, LastLive}
 use Rattle.merge_encoder.specs.Steps.{NextKey, KeyIs}

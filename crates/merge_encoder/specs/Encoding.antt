@@ -8,7 +8,7 @@ use Rattle.theory.specs.Dictionary.{Dictionary}
 use Rattle.theory.specs.Merge.{encode}
 use Rattle.tables.specs.Tables.{PairTables, withPrefixes}
 use Rattle.tables.specs.Ready.{PlacesReady, PartsReady}
-use Rattle.built.specs.Built.{dictionaryOf, Built}
+use Rattle.built_tables.specs.Built.{dictionaryOf, Built}
 
 -- the rows and the search area may be read
 pub record RowsReady (file places area : List ℕ) (n : ℕ) : Type 0 where

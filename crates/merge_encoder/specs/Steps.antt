@@ -6,8 +6,7 @@ use mathlib.Core.Bool.{Bool, true, false}
 use Prim.Native.Nat.{ℕ, zero, suc, _+_, _-_, _*_, _≤_, _<_}
 use lib.ListN.{length, getD, take, drop}
 use Rattle.bitfield.specs.Bits.{isSet, allSet, without}
-use Rattle.placed_rows.specs.Rows.{none}
-use Rattle.theory.specs.Dictionary.{Dictionary}
+use Rattle.theory.specs.Dictionary.{Dictionary, none}
 use Rattle.theory.specs.Merge.{byteCodes}
 use Rattle.theory.specs.Paper.{pass, listed}
 use Rattle.merge_encoder.specs.Encoding.{JoinsReady, WhenBuilt, Codes}

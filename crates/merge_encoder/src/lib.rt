@@ -10,7 +10,9 @@ ghost use Rattle.bitfield.specs.Bits.{isSet};
 ghost use Rattle.merge_encoder.specs.Encoding.{RowsReady, JoinsReady, EncodeReady, Encoded};
 ghost use Rattle.merge_encoder.specs.Live.{NextLive, LastLive};
 ghost use Rattle.merge_encoder.specs.Queues.{PushReady, Pushed};
-ghost use Rattle.merge_encoder.specs.Steps.{ByteCode, KnownBytes, KnownCode, ByteCodes, RenewReady, Renewed, FillReady, FirstKeys, State, Waiting, Later, Around, Turned, Ran, RowJoined, Merged, Gathered};
+ghost use Rattle.merge_encoder.specs.Steps.{ByteCode, KnownBytes, KnownCode, ByteCodes, RenewReady, Renewed};
+ghost use Rattle.merge_encoder.specs.Steps.{FillReady, FirstKeys, State, Waiting, Later, Around, Turned, Ran};
+ghost use Rattle.merge_encoder.specs.Steps.{RowJoined, Merged, Gathered};
 ghost use Rattle.tables.specs.Tables.{pairGiven, pairLent, before, after};
 use bitfield::Bit;
 use bitfield::all_set;
@@ -161,7 +163,7 @@ fn renew(
         return push(keys, heads, pool, count, at, NONE);
     }
     let limit = n as u32;
-    let row = token_pair::join_before(
+    let row = pair_check::join_before(
         file,
         places,
         lefts,

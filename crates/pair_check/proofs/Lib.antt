@@ -1,1 +1,5 @@
-pub mod Answers
+pub mod Keys
+pub mod Listing
+pub mod Joins
+pub mod Seams
+pub mod Turns

@@ -13,9 +13,9 @@ use Rattle.theory.proofs.Accepted.{parts-at}
 use Rattle.phrase_file.specs.Form.{rows}
 use Rattle.phrase_file.specs.Checks.{firstNot}
 use Rattle.phrase_file.proofs.Bytes.{first-passed, first-here, first-end}
-use Rattle.placed_rows.specs.Rows.{none}
+use Rattle.theory.specs.Dictionary.{none}
 use Rattle.marks.specs.Marks.{marked}
-use Rattle.token_pair.specs.Pair.{pairKey, seamAt}
+use Rattle.pair_check.specs.Pair.{pairKey, seamAt}
 use Rattle.parts.specs.Parts.{isSome, hasParts, firstWithout, partsIn, RowParts, PartsKnown, Looking, PartsFound, PartsFit, PartsFilled}
 use Rattle.parts.specs.Marking.{AreaKept, WriteFit, PartsWritten, SeamFit, SeamWritten}
 use Rattle.parts.proofs.Trying.{left-low, left-shorter}

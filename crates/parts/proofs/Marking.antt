@@ -9,12 +9,13 @@ use native.Mathlib.Omega.{arith}
 use lib.ListN.{length, length-set, getD, set}
 use lib.Seq.{getD-set-same, getD-set-other, take-set-le, drop-set-lt}
 use Rattle.phrase_file.specs.Form.{rows}
-use Rattle.placed_rows.specs.Rows.{none, row}
+use Rattle.theory.specs.Dictionary.{none}
+use Rattle.placed_rows.specs.Rows.{row}
 use Rattle.placed_rows.specs.Texts.{Small}
 use Rattle.marks.specs.Marks.{marked, Marks}
-use Rattle.search_area.proofs.Halves.{finds-same}
-use Rattle.token_pair.specs.Pair.{pairKey, seamKey, seamAt}
-use Rattle.token_pair.proofs.Keys.{key-inside, seam-number}
+use Rattle.search_area.proofs.RowsPart.{finds-same}
+use Rattle.pair_check.specs.Pair.{pairKey, seamKey, seamAt}
+use Rattle.pair_check.proofs.Keys.{key-inside, seam-number}
 use Rattle.parts.specs.Parts.{RowsFound}
 use Rattle.parts.specs.Marking.{AreaKept, PairsEmptied, PairsStay, SeamsStay, Named, PartsWritten, SeamFit, SeamWritten}
 

@@ -8,15 +8,15 @@ use native.Mathlib.Omega.{arith}
 use lib.ListN.{length, getD, take, drop}
 use lib.Seq.{split-at, getD-at, length-take-le}
 use Rattle.theory.specs.Lists.{firstOr}
-use Rattle.theory.specs.Dictionary.{Dictionary}
+use Rattle.theory.specs.Dictionary.{Dictionary, none}
 use Rattle.theory.specs.Parts.{Parts, bytesOf, withParts, prefixes, prefix}
 use Rattle.theory.proofs.RowsAt.{Beginning, Different, rows-in, rows-chain, first-is, first-none}
 use Rattle.phrase_file.specs.Form.{rows}
-use Rattle.placed_rows.specs.Rows.{none, row}
+use Rattle.placed_rows.specs.Rows.{row}
 use Rattle.placed_rows.specs.Longest.{Below, Prefix}
 use Rattle.placed_rows.proofs.Placing.{row-none}
 use Rattle.tables.specs.Ready.{PlacesReady}
-use Rattle.token_pair.specs.Pair.{Distinct}
+use Rattle.pair_check.specs.Pair.{Distinct}
 
 -- an element does not depend on the default
 default : {A : Type 0} (l : List A) (i : ℕ) (d e : A) → i < length l → getD l i d ≡ getD l i e

@@ -11,20 +11,20 @@ use lib.ListN.{length, length-append, length-drop, getD, take, drop}
 use lib.Seq.{take-all}
 use lib.Dec.{ltb}
 use borrow.Author.Tests.{lt-ltb, le-ltb, ltb-true}
-use Rattle.theory.specs.Dictionary.{Dictionary}
+use Rattle.theory.specs.Dictionary.{Dictionary, none}
 use Rattle.theory.specs.Parts.{Parts, partOr, bytesOf, withParts, restOf, arePartsOf, firstParts, partsOf, partsBelow, prefixes}
 use Rattle.theory.proofs.Lists.{bool-cases, lt-or-ge}
 use Rattle.theory.proofs.Merge.{rowBelow-is}
 use Rattle.theory.proofs.RowsAt.{row-found}
 use Rattle.theory.proofs.Accepted.{parts-at}
 use Rattle.phrase_file.specs.Form.{rows}
-use Rattle.placed_rows.specs.Rows.{none, row}
+use Rattle.placed_rows.specs.Rows.{row}
 use Rattle.placed_rows.specs.Texts.{Begins}
 use Rattle.placed_rows.proofs.Beginning.{begins-length, through, whole, beyond}
 use Rattle.tables.specs.Tables.{PairTables, pairTables}
 use Rattle.tables.specs.Ready.{PartsReady}
 use Rattle.search_area.specs.Answers.{Found}
-use Rattle.token_pair.specs.Pair.{Tells, PairReady, PairIs}
+use Rattle.pair_check.specs.Pair.{Tells, PairReady, PairIs}
 use Rattle.parts.specs.Parts.{partsIn, PrefixesFound, RowParts, Looking, Beginner, Fails, Passes, RightPart, PartsFound}
 use Rattle.parts.proofs.Prefixes.{bytes-are, row-bytes, different, prefix-cases}
 

@@ -5,11 +5,11 @@ use mathlib.Core.Bool.{true}
 use Prim.Native.Nat.{ℕ, _≤_, _<_}
 use lib.ListN.{length, getD, set, take, drop}
 use Rattle.marks.specs.Layout.{hints, seams, pairs, areaSize}
-use Rattle.placed_rows.specs.Rows.{none}
+use Rattle.theory.specs.Dictionary.{none}
 use Rattle.marks.specs.Marks.{marked}
 use Rattle.phrase_file.specs.Form.{rows}
 use Rattle.tables.specs.Ready.{PlacesReady}
-use Rattle.token_pair.specs.Pair.{pairKey, seamKey, seamAt}
+use Rattle.pair_check.specs.Pair.{pairKey, seamKey, seamAt}
 
 -- the search area has changed in the hints and the marks alone, its numbers 12,544 to 16,383
 pub record AreaKept (area area' : List ℕ) : Type 0 where

@@ -11,13 +11,14 @@ use Rattle.marks.specs.Layout.{areaSize}
 use Rattle.theory.specs.Parts.{Parts, restOf, arePartsOf, partsOf, partsBelow}
 use Rattle.phrase_file.specs.Form.{rows}
 use Rattle.phrase_file.specs.Checks.{firstNot}
-use Rattle.placed_rows.specs.Rows.{none, row}
+use Rattle.theory.specs.Dictionary.{none}
+use Rattle.placed_rows.specs.Rows.{row}
 use Rattle.placed_rows.specs.Texts.{Begins}
 use Rattle.placed_rows.specs.Longest.{Below, Prefix}
 use Rattle.tables.specs.Tables.{PairTables}
 use Rattle.tables.specs.Ready.{PlacesReady}
 use Rattle.search_area.specs.Area.{Finds}
-use Rattle.token_pair.specs.Pair.{Distinct, PairsMarked, SeamsMarked}
+use Rattle.pair_check.specs.Pair.{Distinct, PairsMarked, SeamsMarked}
 use Rattle.parts.specs.Marking.{AreaKept}
 
 abbrev pub isSome : Option Parts → Bool

@@ -3,7 +3,8 @@ ghost use mathlib.Core.Path.{_≡_};
 ghost use Prim.Native.Nat.{_≤_, _<_};
 ghost use lib.ListN.{length};
 ghost use Rattle.marks.specs.Layout.{areaSize};
-ghost use Rattle.parts.specs.Parts.{Looking, Beginner, RightPart, PrefixesFound, PartsFound, PartsFit, PartsFilled};
+ghost use Rattle.parts.specs.Parts.{Looking, Beginner, RightPart, PrefixesFound, PartsFound, PartsFit};
+ghost use Rattle.parts.specs.Parts.{PartsFilled};
 ghost use Rattle.parts.specs.Marking.{PairsEmptied, Named, WriteFit, PartsWritten, SeamFit, SeamWritten};
 ghost use Rattle.tables.specs.Tables.{pairGiven};
 use marks::AREA;
@@ -43,7 +44,7 @@ fn right_part(
     if w <= right {
         return NONE;
     }
-    if token_pair::is_valid_pair_below(file, places, lefts, rights, area, n, w, left, right) {
+    if pair_check::is_valid_pair_below(file, places, lefts, rights, area, n, w, left, right) {
         return right;
     }
     NONE
@@ -120,7 +121,7 @@ fn name_row(area: &mut [u32], w: usize, left: u32, right: u32)
     requires { ⌜ (w < 65535) × (areaSize ≤ length (now area)) ⌝ }
     ensures { λ _. ⌜ Named (now (area .entry)) (now (area .exit)) ⌝ }
 {
-    let place = token_pair::hint_place(left, right);
+    let place = pair_check::hint_place(left, right);
     let at = HINTS + place / 2;
     area[at] = with_row(area[at], place % 2, w);
 }
@@ -145,7 +146,7 @@ fn write_parts(
         return;
     }
     name_row(area, w, left, right);
-    marks::mark(area, PAIRS, token_pair::pair_key(left, right));
+    marks::mark(area, PAIRS, pair_check::pair_key(left, right));
 }
 
 // Marks the seam of row w, if it is a longer one: its last byte within the left part, and the next one.
@@ -162,7 +163,7 @@ fn mark_seam(file: &[u8], places: &[u32], n: usize, area: &mut [u32], w: usize, 
     marks::mark(
         area,
         SEAMS,
-        token_pair::seam_key(bytes[cut - 1], bytes[cut]),
+        pair_check::seam_key(bytes[cut - 1], bytes[cut]),
     );
 }
 

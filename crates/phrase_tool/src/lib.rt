@@ -1,21 +1,36 @@
 // The commands of the program `phrases`. Each prints its answer to standard output; the last line begins with
 // `result:`.
+mod bursts;
+mod checking;
+mod command_line;
+mod decoding;
+mod files;
+mod loading;
+mod pairs;
+mod refusals;
+mod rows;
+mod saying;
+mod sending;
+mod sheets;
+mod showing;
+mod texts;
+mod typing_command;
 mod usage;
 
-use file_commands::Loaded;
-use file_commands::load;
-use text_commands::Given;
-use text_commands::read_numbers;
-use text_commands::read_text;
-use tool_files::say_error_result;
+use crate::command_line::word;
+use crate::command_line::word_count;
+use crate::files::say_error_result;
+use crate::loading::Loaded;
+use crate::loading::load;
+use crate::saying::say_quoted;
+use crate::texts::Given;
+use crate::texts::read_numbers;
+use crate::texts::read_text;
 use usage::help;
 use words::front;
 use words::is;
 use words::say;
 use words::say_number;
-use words::say_quoted;
-use words::word;
-use words::word_count;
 
 // A table of a phrase file.
 type Table = [u32; 4096];
@@ -58,7 +73,7 @@ fn decode_buffer(
     buffer: &Text,
     size: usize,
 ) {
-    text_commands::decode(
+    crate::decoding::decode(
         file,
         places,
         lefts,
@@ -114,18 +129,18 @@ fn send_buffer(
 ) {
     let text = front(buffer, size);
     if is(command, b"encode") {
-        text_commands::encode(file, places, lefts, rights, prefixes, area, text);
+        crate::sending::encode(file, places, lefts, rights, prefixes, area, text);
         return;
     }
     if is(command, b"shortest") {
-        text_commands::shortest(file, places, lefts, rights, prefixes, area, text);
+        crate::sending::shortest(file, places, lefts, rights, prefixes, area, text);
         return;
     }
     if is(command, b"show") {
-        text_commands::show(file, places, lefts, rights, prefixes, area, text, out);
+        crate::showing::show(file, places, lefts, rights, prefixes, area, text, out);
         return;
     }
-    text_commands::count(file, places, lefts, rights, prefixes, area, text);
+    crate::sending::count(file, places, lefts, rights, prefixes, area, text);
 }
 
 // The same, once the text is read.
@@ -212,11 +227,11 @@ fn run_built(
 ) {
     let file = front(buffer, size);
     if is(command, b"type") {
-        typing_command::type_text(file, places, lefts, rights, prefixes, area, input, each);
+        crate::typing_command::type_text(file, places, lefts, rights, prefixes, area, input, each);
         return;
     }
     if is(command, b"why") {
-        text_commands::why(
+        crate::pairs::why(
             file,
             places,
             lefts,
@@ -325,13 +340,13 @@ fn run_other(command: &[u8], line: &[u8], given: usize, input: i32, each: bool) 
 fn run_making(command: &[u8], line: &[u8], given: usize) -> bool {
     if is(command, b"check") {
         if takes(command, b"FILE [FACTOR]", 1, 2, given) {
-            file_commands::check(word(line, 1), word(line, 2), 2 <= given);
+            crate::checking::check(word(line, 1), word(line, 2), 2 <= given);
         }
         return true;
     }
     if is(command, b"sheet") {
         if takes(command, b"SHEET OUT", 2, 2, given) {
-            file_commands::make_phrase_file(word(line, 1), word(line, 2));
+            crate::sheets::make_phrase_file(word(line, 1), word(line, 2));
         }
         return true;
     }

@@ -27,8 +27,8 @@ fn first(line: &[u8]) -> &[u8] {
 // Puts the bytes of an escaped text of at most 64 bytes.
 fn put_unescaped(text: &[u8], out: &mut [u8], at: usize) -> usize {
     let mut bytes = [0u8; 64];
-    match sheet::unescape(text, &mut bytes) {
-        sheet::Phrase::Bytes(size) => put_front(&bytes, size, out, at),
+    match text_forms::unescape(text, &mut bytes) {
+        text_forms::Phrase::Bytes(size) => put_front(&bytes, size, out, at),
         _ => at,
     }
 }

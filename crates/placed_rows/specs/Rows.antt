@@ -5,10 +5,6 @@ use Prim.Native.Nat.{ℕ, _+_, _≤_, _<_}
 use lib.ListN.{length, getD, take, drop}
 use lib.Dec.{ltb}
 
--- "none" of document 01
-abbrev pub none : ℕ
-none = 4294967295
-
 -- the bytes of row c: at its place stand the mark, of two bytes, the length byte and then as many bytes; from n on
 -- there is no row, and there are no bytes
 unfoldable pub row : List ℕ → List ℕ → ℕ → ℕ → List ℕ

@@ -4,9 +4,7 @@ ghost use Prim.Native.Nat.{ℕ, _<_};
 ghost use lib.ListN.{length};
 ghost use Rattle.placed_rows.specs.Rows.{row, Placed};
 ghost use Rattle.placed_rows.specs.Texts.{begins, facing, Small};
-
-// "None".
-pub const NONE: u32 = 4294967295;
+pub use theory::NONE;
 
 // A row and its number of bytes.
 pub struct Match {
@@ -22,7 +20,7 @@ pub fn wide(x: u32) -> usize
 }
 
 // A length byte as a length.
-fn wide_byte(b: u8) -> usize
+pub fn wide_byte(b: u8) -> usize
     ensures { λ r. ⌜ Small b 256 r ⌝ }
 {
     b as usize

@@ -1,32 +1,32 @@
 // Building, and the calls that need no text.
+use crate::canary::cleared;
+use crate::canary::fill;
+use crate::canary::kept;
+use crate::fields::entry;
+use crate::fields::field;
+use crate::fields::number;
+use crate::fields::rest;
+use crate::fields::size;
+use crate::names::BUILD;
+use crate::names::ENTRIES;
+use crate::names::LENGTH;
+use crate::names::PAIR;
+use crate::names::ROWS;
+use crate::names::SET;
+use crate::names::buffer;
+use crate::sizes::AREA;
+use crate::sizes::FILE;
+use crate::sizes::LEFTS;
+use crate::sizes::PLACES;
+use crate::sizes::PREFIXES;
+use crate::sizes::RIGHTS;
+use crate::sizes::SearchArea;
+use crate::sizes::Sizes;
+use crate::sizes::Table;
+use crate::sizes::lent;
 use causes::Answer;
 use causes::BuildAnswer;
 use causes::PairAnswer;
-use script_lines::canary::cleared;
-use script_lines::canary::fill;
-use script_lines::canary::kept;
-use script_lines::fields::entry;
-use script_lines::fields::field;
-use script_lines::fields::number;
-use script_lines::fields::rest;
-use script_lines::fields::size;
-use script_lines::names::BUILD;
-use script_lines::names::ENTRIES;
-use script_lines::names::LENGTH;
-use script_lines::names::PAIR;
-use script_lines::names::ROWS;
-use script_lines::names::SET;
-use script_lines::names::buffer;
-use script_lines::sizes::AREA;
-use script_lines::sizes::FILE;
-use script_lines::sizes::LEFTS;
-use script_lines::sizes::PLACES;
-use script_lines::sizes::PREFIXES;
-use script_lines::sizes::RIGHTS;
-use script_lines::sizes::SearchArea;
-use script_lines::sizes::Sizes;
-use script_lines::sizes::Table;
-use script_lines::sizes::lent;
 use words::front;
 use words::say;
 use words::say_field;
@@ -158,7 +158,7 @@ fn set_entry(
 }
 
 // The number and the place of an answer.
-pub fn say_answer(answer: Answer) {
+pub(crate) fn say_answer(answer: Answer) {
     say_field(causes::answer_number(answer) as u64);
     say_field(causes::answer_place(answer));
 }
@@ -179,7 +179,7 @@ fn say_pair(answer: PairAnswer) {
 }
 
 // The calls over tables that need no text: `rows`, `length ROW`, `pair ROW ROW`.
-pub fn ask(
+pub(crate) fn ask(
     command: usize,
     line: &[u8],
     file: &[u8],
@@ -198,7 +198,7 @@ pub fn ask(
         say(b"\n");
     }
     if command == PAIR {
-        say_pair(pair_check::is_valid_token_pair(
+        say_pair(byte_pair_encoding::is_valid_token_pair(
             file,
             places,
             lefts,
@@ -212,7 +212,7 @@ pub fn ask(
 }
 
 // Does a command that writes or shows the tables, if it is one.
-pub fn obey(
+pub(crate) fn obey(
     command: usize,
     line: &[u8],
     file: &[u8],

@@ -2,25 +2,32 @@
 // command that calls the library prints its answer, and whether the lent buffers hold what document 01 says beside
 // it. README.md lists the commands, and says where the list and what must be printed for it come from.
 mod building;
+mod canary;
+mod fields;
+mod files;
+mod names;
 mod sending;
+mod sizes;
+mod texts;
+mod writing;
 
-use script_lines::fields::END;
-use script_lines::fields::field;
-use script_lines::fields::read_line;
-use script_lines::fields::rest;
-use script_lines::names::BITFIELD;
-use script_lines::names::NO_COMMAND;
-use script_lines::sizes::AREA;
-use script_lines::sizes::CODES;
-use script_lines::sizes::FILE;
-use script_lines::sizes::LEFTS;
-use script_lines::sizes::PLACES;
-use script_lines::sizes::PREFIXES;
-use script_lines::sizes::RIGHTS;
-use script_lines::sizes::SearchArea;
-use script_lines::sizes::Sizes;
-use script_lines::sizes::TEXT;
-use script_lines::sizes::Table;
+use crate::fields::END;
+use crate::fields::field;
+use crate::fields::read_line;
+use crate::fields::rest;
+use crate::names::BITFIELD;
+use crate::names::NO_COMMAND;
+use crate::sizes::AREA;
+use crate::sizes::CODES;
+use crate::sizes::FILE;
+use crate::sizes::LEFTS;
+use crate::sizes::PLACES;
+use crate::sizes::PREFIXES;
+use crate::sizes::RIGHTS;
+use crate::sizes::SearchArea;
+use crate::sizes::Sizes;
+use crate::sizes::TEXT;
+use crate::sizes::Table;
 use words::front;
 use words::front_numbers;
 use words::say;
@@ -77,10 +84,10 @@ fn obey(
     text: &mut [u8; 4200],
     codes: &mut Table,
 ) {
-    let command = script_lines::names::command(field(line));
+    let command = crate::names::command(field(line));
     let arguments = rest(line);
     say_name(command, field(line));
-    script_lines::write(command, arguments, file, sizes, text, codes);
+    crate::writing::write(command, arguments, file, sizes, text, codes);
     building::obey(
         command,
         arguments,
@@ -119,7 +126,7 @@ fn run() {
     let mut text = [0u8; 4200];
     let mut codes = [0u32; 4200];
     let mut sizes = [0usize; 16];
-    script_lines::sizes::lend_all(&mut sizes);
+    crate::sizes::lend_all(&mut sizes);
     for k in 0..1000000usize {
         let size = read_line(&mut line);
         if size == END {

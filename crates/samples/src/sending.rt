@@ -1,21 +1,21 @@
 // Sending, counting and decoding over the text and the codes that were set.
 use crate::building::ask;
 use crate::building::say_answer;
+use crate::canary::CANARY;
+use crate::canary::fill;
+use crate::canary::kept;
+use crate::canary::kept_bytes;
+use crate::fields::entry;
+use crate::fields::number;
+use crate::fields::rest;
+use crate::names;
+use crate::sizes::BYTES;
+use crate::sizes::OUTPUT;
+use crate::sizes::Sizes;
+use crate::sizes::WORK;
+use crate::sizes::lent;
+use crate::sizes::lent_bytes;
 use causes::Answer;
-use script_lines::canary::CANARY;
-use script_lines::canary::fill;
-use script_lines::canary::kept;
-use script_lines::canary::kept_bytes;
-use script_lines::fields::entry;
-use script_lines::fields::number;
-use script_lines::fields::rest;
-use script_lines::names;
-use script_lines::sizes::BYTES;
-use script_lines::sizes::OUTPUT;
-use script_lines::sizes::Sizes;
-use script_lines::sizes::WORK;
-use script_lines::sizes::lent;
-use script_lines::sizes::lent_bytes;
 use words::front;
 use words::front_numbers;
 use words::say;
@@ -287,7 +287,7 @@ fn decode(
 }
 
 // Does a command that reads the tables, if it is one.
-pub fn obey(
+pub(crate) fn obey(
     command: usize,
     line: &[u8],
     file: &[u8],

@@ -1,3 +1,3 @@
-pub mod Halves
+pub mod RowsPart
 pub mod Looking
 pub mod Stepping

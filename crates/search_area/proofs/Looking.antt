@@ -1,4 +1,4 @@
--- From the descent in the front half to the lookups' answers. Assumes nothing.
+-- From the descent in the rows' part to the lookups' answers. Assumes nothing.
 use mathlib.Core.Path.{_≡_, refl, sym, ap, _∙_}
 use mathlib.Core.List.{List, _++_}
 use mathlib.Core.Logic.{inl, inr, ⊎-elim}
@@ -7,7 +7,8 @@ use Prim.Native.Nat.{ℕ, _+_, _<_}
 use native.Mathlib.Omega.{arith}
 use lib.ListN.{length, length-append}
 use borrow.Author.Tests.{lt-ltb, ltb-true}
-use Rattle.placed_rows.specs.Rows.{none, row}
+use Rattle.theory.specs.Dictionary.{none}
+use Rattle.placed_rows.specs.Rows.{row}
 use Rattle.placed_rows.specs.Texts.{Begins}
 use Rattle.placed_rows.specs.Longest.{Below, Known, Longest}
 use Rattle.placed_rows.proofs.Beginning.{begins-length, same-length, whole}
@@ -40,8 +41,8 @@ known-below n d (inl e) = inl e
 known-below n d (inr s) = inr (in-below n d s)
 
 -- none is where a descent starts
-abbrev at-none : (R : ℕ → List ℕ) (n : ℕ) (half : List ℕ) (S : ℕ → Bool) → Indexed R n half S → At R n half S none 0
-at-none R n half S I = record { index = I; known = inl refl; size = sym (ap length (I .forest .root)) }
+abbrev at-none : (R : ℕ → List ℕ) (n : ℕ) (area : List ℕ) (S : ℕ → Bool) → Indexed R n area S → At R n area S none 0
+at-none R n area S I = record { index = I; known = inl refl; size = sym (ap length (I .forest .root)) }
 
 longest-below : (R : ℕ → List ℕ) (n : ℕ) (t : List ℕ) (r : ℕ) → Longest R (In (allRows n)) t r → Longest R (Below n) t r
 longest-below R n t r L = record {
@@ -50,9 +51,9 @@ longest-below R n t r L = record {
   longest = λ d h. L .longest d (below-in n d h);
 }
 
--- what a descent in the front half has found
-module _ (R : ℕ → List ℕ) (n : ℕ) (half : List ℕ) (from len : ℕ) (t full : List ℕ) (r l : ℕ) (D : Descent R n half from len t r l) (e : R from ++ t ≡ full)
-    (a : At R n half (allRows n) from len) where
+-- what a descent in the rows' part has found
+module _ (R : ℕ → List ℕ) (n : ℕ) (area : List ℕ) (from len : ℕ) (t full : List ℕ) (r l : ℕ) (D : Descent R n area from len t r l) (e : R from ++ t ≡ full)
+    (a : At R n area (allRows n) from len) where
   pub longest-full : Longest R (Below n) full r × (l ≡ length (R r))
   longest-full = let q = D .longest (allRows n) a in (rw e at (longest-below R n (R from ++ t) r (q .0)), q .1)
 

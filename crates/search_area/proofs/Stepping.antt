@@ -1,4 +1,4 @@
--- From the child of a row in the front half to the next longer row that begins a text. Assumes nothing.
+-- From the child of a row in the rows' part to the next longer row that begins a text. Assumes nothing.
 use mathlib.Core.Path.{_≡_, refl, sym, ap, _∙_}
 use mathlib.Core.List.{List, [], _∷_, _++_}
 use mathlib.Core.Logic.{inl, inr, ⊎-elim}
@@ -7,7 +7,8 @@ use native.Mathlib.Decide.{decLt}
 use native.Mathlib.Omega.{arith}
 use lib.ListN.{length, length-drop, getD, drop}
 use lib.Seq.{drop-cons}
-use Rattle.placed_rows.specs.Rows.{none, row}
+use Rattle.theory.specs.Dictionary.{none}
+use Rattle.placed_rows.specs.Rows.{row}
 use Rattle.placed_rows.specs.Texts.{Begins}
 use Rattle.placed_rows.specs.Longest.{Known, Longest}
 use Rattle.placed_rows.proofs.Beginning.{begins-length, beyond, both}
@@ -19,11 +20,11 @@ use Rattle.search_area.specs.Area.{allRows}
 use Rattle.search_area.specs.Answers.{Reached, Longer, LongerMatch}
 use Rattle.search_area.proofs.Looking.{front-index, finds-whole, below-in}
 
-module _ (R : ℕ → List ℕ) (n : ℕ) (half t : List ℕ) (p len r l : ℕ) (C : ChildIs R n half p len (drop len t) r l) (I : Indexed R n half (allRows n)) (Q : Reached R n t p len) where
+module _ (R : ℕ → List ℕ) (n : ℕ) (area t : List ℕ) (p len r l : ℕ) (C : ChildIs R n area p len (drop len t) r l) (I : Indexed R n area (allRows n)) (Q : Reached R n t p len) where
   here : Known (In (allRows n)) p
   here = ⊎-elim inl (λ h. inr (below-in n p h)) (Q .known)
 
-  abbrev at-row : At R n half (allRows n) p len
+  abbrev at-row : At R n area (allRows n) p len
   at-row = record { index = I; known = here; size = Q .size }
 
   -- what the child goes on with is the text

@@ -5,7 +5,8 @@ use mathlib.Core.List.{List, _++_}
 use mathlib.Core.Logic.{_⊎_}
 use Prim.Native.Nat.{ℕ, _≤_, _<_}
 use lib.ListN.{length}
-use Rattle.placed_rows.specs.Rows.{none, row}
+use Rattle.theory.specs.Dictionary.{none}
+use Rattle.placed_rows.specs.Rows.{row}
 use Rattle.placed_rows.specs.Texts.{Begins}
 use Rattle.placed_rows.specs.Longest.{Below, Known, Longest}
 use Rattle.search_area.specs.Area.{Finds}

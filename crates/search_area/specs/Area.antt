@@ -10,12 +10,12 @@ use Rattle.marks.specs.Layout.{hints}
 use Rattle.placed_rows.specs.Rows.{row}
 use Rattle.forest.specs.Words.{Indexed}
 
-abbrev pub frontHalf : List ℕ → List ℕ
-frontHalf area = take hints area
+abbrev pub rowsPart : List ℕ → List ℕ
+rowsPart area = take hints area
 
--- the front half lists the rows of S
+-- the rows' part lists the rows of S
 abbrev pub Holds : List ℕ → List ℕ → ℕ → List ℕ → (ℕ → Bool) → Type 0
-Holds file places n area S = Indexed (row file places n) n (frontHalf area) S
+Holds file places n area S = Indexed (row file places n) n (rowsPart area) S
 
 -- all rows
 abbrev pub allRows : ℕ → ℕ → Bool

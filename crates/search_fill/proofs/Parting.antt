@@ -1,4 +1,4 @@
--- The front half is written, and the rest of the area stays. Assumes nothing.
+-- The rows' part is written, and the rest of the area stays. Assumes nothing.
 use mathlib.Core.Path.{_≡_, _∙_}
 use mathlib.Core.List.{List, _++_}
 use mathlib.Core.Bool.{Bool}
@@ -6,13 +6,14 @@ use Prim.Native.Nat.{ℕ, _≤_}
 use native.Mathlib.Omega.{arith}
 use lib.ListN.{length, length-append, length-drop, drop}
 use lib.Seq.{take-at, drop-at}
-use Rattle.placed_rows.specs.Rows.{none, row}
+use Rattle.theory.specs.Dictionary.{none}
+use Rattle.placed_rows.specs.Rows.{row}
 use Rattle.placed_rows.proofs.Placing.{row-none}
 use Rattle.forest.specs.Words.{In}
 use Rattle.forest.specs.Growth.{cleared, Inserted}
 use Rattle.forest.proofs.Emptying.{length-cleared, cleared-none}
-use Rattle.search_area.specs.Area.{frontHalf, Holds}
-use Rattle.search_area.proofs.Halves.{front-length}
+use Rattle.search_area.specs.Area.{rowsPart, Holds}
+use Rattle.search_area.proofs.RowsPart.{front-length}
 use Rattle.search_fill.specs.Steps.{emptied, RowIn}
 
 module _ (area front : List ℕ) (A : 16384 ≤ length area) (f : length front ≡ 12544) where
@@ -22,33 +23,33 @@ module _ (area front : List ℕ) (A : 16384 ≤ length area) (f : length front �
   written-beyond : drop 12544 (front ++ drop 12544 area) ≡ drop 12544 area
   written-beyond = drop-at front (drop 12544 area) 12544 f
 
-  written-front : frontHalf (front ++ drop 12544 area) ≡ front
+  written-front : rowsPart (front ++ drop 12544 area) ≡ front
   written-front = take-at front (drop 12544 area) 12544 f
 
 -- it is emptied
-pub emptied-is : (area front : List ℕ) → front ≡ cleared (frontHalf area) → front ++ drop 12544 area ≡ emptied area
+pub emptied-is : (area front : List ℕ) → front ≡ cleared (rowsPart area) → front ++ drop 12544 area ≡ emptied area
 unfolding emptied
 emptied-is area front e = λ i. e i ++ drop 12544 area
 
 module _ (area : List ℕ) (A : 16384 ≤ length area) where
-  cleared-size : length (cleared (frontHalf area)) ≡ 12544
-  cleared-size = let l = front-length area A in length-cleared (frontHalf area) (omega arith) ∙ l
+  cleared-size : length (cleared (rowsPart area)) ≡ 12544
+  cleared-size = let l = front-length area A in length-cleared (rowsPart area) (omega arith) ∙ l
 
   pub emptied-length : length (emptied area) ≡ length area
   unfolding emptied
-  emptied-length = written-length area (cleared (frontHalf area)) A cleared-size
+  emptied-length = written-length area (cleared (rowsPart area)) A cleared-size
 
   pub emptied-beyond : drop 12544 (emptied area) ≡ drop 12544 area
   unfolding emptied
-  emptied-beyond = written-beyond area (cleared (frontHalf area)) A cleared-size
+  emptied-beyond = written-beyond area (cleared (rowsPart area)) A cleared-size
 
   pub emptied-holds : (file places : List ℕ) (n : ℕ) (S : ℕ → Bool) → n ≤ 4096 → ((d : ℕ) → In S d → ⊥) → Holds file places n (emptied area) S
   unfolding emptied
-  emptied-holds file places n S N void = rw (written-front area (cleared (frontHalf area)) A cleared-size)
-      (cleared-none (row file places n) n (frontHalf area) S (row-none file places n none (omega arith)) N void)
+  emptied-holds file places n S N void = rw (written-front area (cleared (rowsPart area)) A cleared-size)
+      (cleared-none (row file places n) n (rowsPart area) S (row-none file places n none (omega arith)) N void)
 
 -- row c goes in
-pub row-inserted : (file places : List ℕ) (n : ℕ) (area front : List ℕ) (c : ℕ) → 16384 ≤ length area → Inserted (row file places n) n (frontHalf area) c front
+pub row-inserted : (file places : List ℕ) (n : ℕ) (area front : List ℕ) (c : ℕ) → 16384 ≤ length area → Inserted (row file places n) n (rowsPart area) c front
     → RowIn file places n area c (front ++ drop 12544 area)
 row-inserted file places n area front c A i =
     let f : length front ≡ 12544 = i .kept ∙ front-length area A in

@@ -1,4 +1,4 @@
--- The steps of fill: the front half of the area is emptied, and then the rows go in by rising length. Assumes nothing.
+-- The steps of fill: the front of the area is emptied, and then the rows go in by rising length. Assumes nothing.
 use mathlib.Core.Path.{_≡_}
 use mathlib.Core.List.{List, _++_}
 use mathlib.Core.Bool.{Bool, _&&_}
@@ -9,14 +9,14 @@ use Rattle.marks.specs.Layout.{hints}
 use Rattle.placed_rows.specs.Rows.{row}
 use Rattle.placed_rows.specs.Longest.{Below, Prefix}
 use Rattle.forest.specs.Growth.{cleared, with-row, Fresh}
-use Rattle.search_area.specs.Area.{frontHalf, Holds, Finds}
+use Rattle.search_area.specs.Area.{rowsPart, Holds, Finds}
 use Rattle.search_fill.specs.Filled.{Fillable}
 
--- the area with its front half emptied
+-- the area with its rows' part emptied
 unfoldable pub emptied : List ℕ → List ℕ
-emptied area = cleared (frontHalf area) ++ drop hints area
+emptied area = cleared (rowsPart area) ++ drop hints area
 
--- row c went into the front half
+-- row c went into the rows' part
 pub record RowIn (file places : List ℕ) (n : ℕ) (area : List ℕ) (c : ℕ) (area' : List ℕ) : Type 0 where
   pub area-length : length area' ≡ length area
   pub area-beyond : drop hints area' ≡ drop hints area

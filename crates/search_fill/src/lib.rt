@@ -9,7 +9,7 @@ ghost use Rattle.search_fill.specs.Steps.{emptied, RowIn, RowsIn, Prefix
 use marks::HINTS;
 use placed_rows::NONE;
 
-// The front half is emptied.
+// The rows' part is emptied.
 fn empty(area: &mut [u32])
     requires { ⌜ areaSize ≤ length (now area) ⌝ }
     ensures { λ r. ⌜ now (area .exit) ≡ emptied (now (area .entry)) ⌝ }
@@ -17,7 +17,7 @@ fn empty(area: &mut [u32])
     forest::clear(&mut area[..HINTS]);
 }
 
-// Row c goes into the front half.
+// Row c goes into the rows' part.
 fn add_row(file: &[u8], places: &[u32], n: usize, area: &mut [u32], c: usize)
     requires { ⌜ Placed (now file) (now places) n ⌝ }
     requires { ⌜ (areaSize ≤ length (now area)) × ((c < n) × (length (row (now file) (now places) n c) ≤ 64)) ⌝ }

@@ -14,8 +14,8 @@ use Rattle.theory.proofs.PairCheck.{Lawful}
 use Rattle.theory.proofs.Longest.{rowLength, known-drop}
 use Rattle.theory.proofs.RowsAt.{filled, rows-known}
 use Rattle.theory.proofs.ShortestSteps.{chosen, chosen-in, shortest-nil, shortest-cons}
-use Rattle.built.specs.Built.{dictionaryOf, Built}
-use Rattle.built.proofs.Rows.{count-is, bytes-are, places-ready}
+use Rattle.built_tables.specs.Built.{dictionaryOf, Built}
+use Rattle.built_tables.proofs.Rows.{count-is, bytes-are, places-ready}
 use Rattle.shortest_encoder.specs.Entries.{entryOf, entry, countFrom, Bounded, AreEntries}
 use Rattle.tables.specs.Tables.{Tables}
 

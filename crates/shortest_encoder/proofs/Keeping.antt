@@ -5,7 +5,7 @@ use Prim.Native.Nat.{ℕ, _≤_, _<_}
 use native.Mathlib.Decide.{decLt}
 use native.Mathlib.Omega.{arith}
 use lib.ListN.{length}
-use Rattle.placed_rows.specs.Rows.{none}
+use Rattle.theory.specs.Dictionary.{none}
 use Rattle.placed_rows.specs.Texts.{Begins}
 use Rattle.search_area.specs.Answers.{Reached, Longer}
 use Rattle.shortest_encoder.proofs.Rising.{reached-more}

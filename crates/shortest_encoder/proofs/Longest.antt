@@ -7,16 +7,15 @@ use native.Mathlib.Omega.{arith}
 use lib.ListN.{length, length-drop, drop, set, drop-of-length-le}
 use lib.Seq.{drop-drop}
 use Rattle.phrase_file.proofs.Filling.{Filled, filled-start, filled-more}
-use Rattle.placed_rows.specs.Rows.{none}
-use Rattle.theory.specs.Dictionary.{Dictionary}
+use Rattle.theory.specs.Dictionary.{Dictionary, none}
 use Rattle.theory.specs.Shortest.{greedy}
 use Rattle.theory.proofs.PairCheck.{Lawful}
 use Rattle.theory.proofs.Longest.{rowLength}
 use Rattle.theory.proofs.Greedy.{greedy-nil, greedy-cons, greedy-spells}
 use Rattle.search_area.specs.Answers.{NextMatch}
-use Rattle.built.specs.Built.{dictionaryOf, Built}
-use Rattle.built.proofs.Rows.{lawful-is, known}
-use Rattle.built.proofs.Lookups.{NextIs, next-is}
+use Rattle.built_tables.specs.Built.{dictionaryOf, Built}
+use Rattle.built_tables.proofs.Rows.{lawful-is, known}
+use Rattle.built_tables.proofs.Lookups.{NextIs, next-is}
 use Rattle.shortest_encoder.specs.Encoders.{Written, GreedyReady, GreedyIs}
 use Rattle.shortest_encoder.proofs.Trying.{Bytes, bytes-drop}
 use Rattle.shortest_encoder.proofs.Writing.{written-start, written-more, all-written, codes-room}

@@ -6,7 +6,7 @@ use native.Mathlib.Decide.{ℕ-discrete}
 use native.Mathlib.Omega.{arith}
 use lib.ListN.{length, length-set, getD, drop, set}
 use lib.Seq.{getD-set-same, getD-set-other, drop-set-lt}
-use Rattle.built.specs.Built.{dictionaryOf, Built}
+use Rattle.built_tables.specs.Built.{dictionaryOf, Built}
 use Rattle.shortest_encoder.specs.Entries.{entry, Bounded, AreEntries, EntryReady, EntryIs, Entries}
 use Rattle.shortest_encoder.specs.Encoders.{EntriesReady}
 use Rattle.tables.specs.Tables.{tables}

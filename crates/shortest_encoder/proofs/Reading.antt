@@ -11,8 +11,8 @@ use Rattle.theory.proofs.PairCheck.{Lawful}
 use Rattle.theory.proofs.Longest.{rowLength}
 use Rattle.theory.proofs.Shortest.{shortest-spells}
 use Rattle.theory.proofs.ShortestSteps.{chosen, shortest-at, shortest-nil}
-use Rattle.built.specs.Built.{dictionaryOf, Built}
-use Rattle.built.proofs.Rows.{lawful-is, known}
+use Rattle.built_tables.specs.Built.{dictionaryOf, Built}
+use Rattle.built_tables.proofs.Rows.{lawful-is, known}
 use Rattle.shortest_encoder.specs.Entries.{Bounded, AreEntries, Entries, CodesReady, CodesRead}
 use Rattle.shortest_encoder.specs.Encoders.{Written, MinimalIs}
 use Rattle.shortest_encoder.proofs.Counts.{built-fits, gives-at}

@@ -5,7 +5,8 @@ use mathlib.Core.List.{List, []}
 use Prim.Native.Nat.{ℕ, _≤_, _<_}
 use native.Mathlib.Omega.{arith}
 use lib.ListN.{length}
-use Rattle.placed_rows.specs.Rows.{none, row, Placed}
+use Rattle.theory.specs.Dictionary.{none}
+use Rattle.placed_rows.specs.Rows.{row, Placed}
 use Rattle.placed_rows.specs.Texts.{Begins}
 use Rattle.placed_rows.proofs.Placing.{row-none}
 use Rattle.placed_rows.proofs.Beginning.{begins-length}

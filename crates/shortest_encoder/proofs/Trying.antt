@@ -6,10 +6,10 @@ use Prim.Native.Nat.{ℕ, _+_, _-_, _/_, _%_, _≤_, _<_, min}
 use native.Mathlib.Omega.{arith}
 use lib.ListN.{length, length-drop, getD, drop}
 use lib.Seq.{getD-drop}
-use Rattle.placed_rows.specs.Rows.{none, row}
+use Rattle.placed_rows.specs.Rows.{row}
 use Rattle.placed_rows.specs.Texts.{Begins}
 use Rattle.placed_rows.proofs.Beginning.{begins-length}
-use Rattle.theory.specs.Dictionary.{Dictionary, Octets, KnownText}
+use Rattle.theory.specs.Dictionary.{Dictionary, Octets, KnownText, none}
 use Rattle.theory.specs.Parts.{rowsAt}
 use Rattle.theory.proofs.Lists.{lt-or-ge}
 use Rattle.theory.proofs.PairCheck.{Lawful}
@@ -17,8 +17,8 @@ use Rattle.theory.proofs.RowsAt.{In, different, filled, rows-known, rows-every}
 use Rattle.theory.proofs.Longest.{rowLength, known-drop, row-begins}
 use Rattle.theory.proofs.ShortestSteps.{behind, behind-drop, chosen, chosen-in, chosen-fewest, chosen-longest, shortest-cons}
 use Rattle.search_area.specs.Answers.{Longer, LongerMatch}
-use Rattle.built.specs.Built.{dictionaryOf, Built}
-use Rattle.built.proofs.Rows.{octets, count-is, row-bytes, lawful-is, known}
+use Rattle.built_tables.specs.Built.{dictionaryOf, Built}
+use Rattle.built_tables.proofs.Rows.{octets, count-is, row-bytes, lawful-is, known}
 use Rattle.shortest_encoder.specs.Entries.{entryOf, entry, countFrom, AreEntries, EntryReady, EntryIs}
 use Rattle.shortest_encoder.proofs.Counts.{entry-holds, count-few, built-fits, entry-gives, counts-are}
 use Rattle.shortest_encoder.proofs.Rising.{reached-none, none-empty, within}

@@ -7,7 +7,7 @@ use Rattle.marks.specs.Layout.{areaSize}
 use Rattle.theory.specs.Shortest.{shortest, greedy}
 use Rattle.tables.specs.Tables.{tables}
 use Rattle.tables.specs.Ready.{PlacesReady}
-use Rattle.built.specs.Built.{dictionaryOf, Built}
+use Rattle.built_tables.specs.Built.{dictionaryOf, Built}
 
 -- output beyond the answer is unchanged: r codes, each below n, stand at the front of the output
 pub record Written (n : ℕ) (text out out' : List ℕ) (r : ℕ) : Type 0 where

@@ -9,7 +9,7 @@ use lib.Dec.{ltb}
 use Rattle.theory.specs.Lists.{firstOr}
 use Rattle.theory.specs.Dictionary.{Dictionary, none}
 use Rattle.theory.specs.Shortest.{shortest}
-use Rattle.built.specs.Built.{dictionaryOf, Built}
+use Rattle.built_tables.specs.Built.{dictionaryOf, Built}
 use Rattle.shortest_encoder.specs.Encoders.{Written, Codes, EntriesReady}
 use Rattle.tables.specs.Tables.{Tables, tables}
 

@@ -6,7 +6,8 @@ ghost use Rattle.marks.specs.Layout.{areaSize};
 ghost use Rattle.placed_rows.specs.Rows.{Placed};
 ghost use Rattle.search_area.specs.Answers.{NextMatch};
 ghost use Rattle.shortest_encoder.specs.Encoders.{EntriesReady, MinimalReady, MinimalIs, GreedyReady, GreedyIs};
-ghost use Rattle.shortest_encoder.specs.Entries.{entryOf, countFrom, EntryReady, EntryIs, Entries, CodesReady, CodesRead};
+ghost use Rattle.shortest_encoder.specs.Entries.{entryOf, countFrom, EntryReady, EntryIs, Entries, CodesReady};
+ghost use Rattle.shortest_encoder.specs.Entries.{CodesRead};
 use placed_rows::Match;
 use placed_rows::NONE;
 

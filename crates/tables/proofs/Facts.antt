@@ -17,9 +17,11 @@ use Rattle.placed_rows.proofs.Beginning.{and-both, no-true, true-false}
 use Rattle.tables.specs.Tables.{Tables}
 use Rattle.tables.specs.declared.Form.{Form}
 use Rattle.tables.specs.declared.Form.the-variants as Form
-use Rattle.tables.specs.InForm.{equal, allBelow, isRows, count, rowSize, rowInForm, largeEnough, inForm, formOf}
+use Rattle.theory.specs.Lists.{equal}
+use Rattle.theory.proofs.Lists.{equal-eq}
+use Rattle.tables.specs.InForm.{allBelow, isRows, count, rowSize, rowInForm, largeEnough, inForm, formOf}
 use Rattle.tables.specs.Steps.{PlacesMatch, sized}
-use Rattle.tables.proofs.Sweeps.{equal-true, equal-same, all-each, each-all}
+use Rattle.tables.proofs.Sweeps.{equal-same, all-each, each-all}
 use Rattle.tables.proofs.Entries.{rows-same}
 
 -- tables in form, n being the count of rows
@@ -60,7 +62,7 @@ module _ (T : Tables) where
         rights-room = leb-true _ _ (p2 .0);
         prefixes-room = leb-true _ _ (p3 .0);
         area-room = leb-true _ _ (p3 .1);
-        places-match = equal-true _ _ (q2 .0);
+        places-match = equal-eq _ _ (q2 .0);
         rows-fit = all-each _ (count file) (q2 .1);
       }
 
@@ -109,7 +111,7 @@ module _ (T : Tables) where
 
 module _ (file placeTable : List ℕ) (n : ℕ) (sizes : List ℕ) (r : Bool) (m : PlacesMatch file placeTable n sizes r) where
   pub places-found : r ≡ true → take n placeTable ≡ places file
-  places-found e = equal-true _ _ (sym (m .answer) ∙ e)
+  places-found e = equal-eq _ _ (sym (m .answer) ∙ e)
 
   pub places-lost : r ≡ false → take n placeTable ≡ places file → ⊥
   places-lost e f = true-false (sym (equal-same _ _ f) ∙ sym (m .answer) ∙ e)

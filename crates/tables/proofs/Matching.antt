@@ -13,9 +13,11 @@ use Rattle.phrase_file.proofs.Places.{step}
 use Rattle.phrase_file.proofs.Rows.{row-is, next-place}
 use Rattle.phrase_file.proofs.Checks.{accepted}
 use Rattle.placed_rows.proofs.Beginning.{no-true}
-use Rattle.tables.specs.InForm.{equal, rowSize}
+use Rattle.theory.specs.Lists.{equal}
+use Rattle.theory.proofs.Lists.{equal-eq}
+use Rattle.tables.specs.InForm.{rowSize}
 use Rattle.tables.specs.Steps.{Passed, PlacesMatch}
-use Rattle.tables.proofs.Sweeps.{equal-true, equal-same}
+use Rattle.tables.proofs.Sweeps.{equal-same}
 
 -- an element does not depend on the default
 default : (l : List ℕ) (i c d : ℕ) → i < length l → getD l i c ≡ getD l i d
@@ -74,7 +76,7 @@ module _ (file placeTable : List ℕ) (n : ℕ) (sizes₀ : List ℕ) (s : Passe
     pub match-fails : (now : List ℕ) → (getD placeTable i 0 ≡ at → ⊥) → PlacesMatch file placeTable n now false
     match-fails now differ =
         record {
-          answer = sym (no-true (equal (take n placeTable) (places file)) (λ e. differ (meets (equal-true _ _ e))));
+          answer = sym (no-true (equal (take n placeTable) (places file)) (λ e. differ (meets (equal-eq _ _ e))));
           sizes-are = λ e. absurd (let z : _≡_ {A = ℕ} 0 1 = cc in omega arith);
         }
       where

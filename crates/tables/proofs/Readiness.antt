@@ -15,7 +15,8 @@ use Rattle.phrase_file.specs.Form.{places}
 use Rattle.phrase_file.specs.Checks.{checkOf}
 use Rattle.phrase_file.proofs.Checks.{accepted}
 use Rattle.phrase_file.proofs.Rows.{RowIs, row-is}
-use Rattle.placed_rows.specs.Rows.{none, row}
+use Rattle.theory.specs.Dictionary.{none}
+use Rattle.placed_rows.specs.Rows.{row}
 use Rattle.placed_rows.proofs.Beginning.{and-both}
 use Rattle.tables.specs.Tables.{Tables}
 use Rattle.tables.specs.declared.Form.{Form}

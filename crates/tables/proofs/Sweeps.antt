@@ -10,26 +10,12 @@ use native.Mathlib.Omega.{arith}
 use lib.Dec.{eqb}
 use borrow.Author.Tests.{eq-eqb, eqb-true}
 use Rattle.placed_rows.proofs.Beginning.{and-both, no-true, true-false}
-use Rattle.tables.specs.InForm.{equal, allBelow}
-
-pub equal-true : (s t : List ℕ) → equal s t ≡ true → s ≡ t
-unfolding equal
-equal-true [] [] e = refl
-equal-true [] (y ∷ t) e = absurd (true-false (sym e))
-equal-true (x ∷ s) [] e = absurd (true-false (sym e))
-equal-true (x ∷ s) (y ∷ t) e =
-    let q = and-both (eqb x y) (equal s t) e in
-    let h = eqb-true x y (q .0) in
-    let k = equal-true s t (q .1) in
-    λ i. h i ∷ k i
-
-itself : (s : List ℕ) → equal s s ≡ true
-unfolding equal
-itself [] = refl
-itself (x ∷ s) = rw (eq-eqb x x refl) (itself s)
+use Rattle.theory.specs.Lists.{equal}
+use Rattle.theory.proofs.Lists.{equal-refl}
+use Rattle.tables.specs.InForm.{allBelow}
 
 pub equal-same : (s t : List ℕ) → s ≡ t → equal s t ≡ true
-equal-same s t e = rw e (itself t)
+equal-same s t e = rw e (equal-refl t)
 
 module _ (test : ℕ → Bool) where
   pub all-more : (i : ℕ) → allBelow i test ≡ true → test i ≡ true → allBelow (i + 1) test ≡ true

@@ -9,17 +9,11 @@ use Rattle.causes.specs.declared.BuildAnswer.{BuildAnswer}
 use Rattle.causes.specs.declared.BuildAnswer.the-variants.{Rows, Refused}
 use Rattle.phrase_file.specs.Form.{places, rows}
 use Rattle.phrase_file.specs.Checks.{checkOf}
-use Rattle.placed_rows.specs.Rows.{none}
+use Rattle.theory.specs.Dictionary.{none}
+use Rattle.theory.specs.Lists.{equal}
 use Rattle.tables.specs.Tables.{Tables}
 use Rattle.tables.specs.declared.Form.{Form}
 use Rattle.tables.specs.declared.Form.the-variants as Form
-
--- whether two lists of numbers are equal
-unfoldable pub equal : List ℕ → List ℕ → Bool
-equal [] [] = true
-equal [] (y ∷ t) = false
-equal (x ∷ s) [] = false
-equal (x ∷ s) (y ∷ t) = eqb x y && equal s t
 
 -- whether a test holds of every number below n
 unfoldable pub allBelow : ℕ → (ℕ → Bool) → Bool

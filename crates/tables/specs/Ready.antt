@@ -7,7 +7,8 @@ use Prim.Native.Nat.{ℕ, _+_, _≤_, _<_}
 use lib.ListN.{length, getD}
 use Rattle.marks.specs.Layout.{areaSize}
 use Rattle.phrase_file.specs.Form.{rows}
-use Rattle.placed_rows.specs.Rows.{none, row, Placed}
+use Rattle.theory.specs.Dictionary.{none}
+use Rattle.placed_rows.specs.Rows.{row, Placed}
 use Rattle.tables.specs.Tables.{Tables}
 
 -- two lower rows whose lengths add up

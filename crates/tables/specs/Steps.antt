@@ -7,7 +7,8 @@ use lib.ListN.{length, getD, take}
 use Rattle.causes.specs.declared.BuildAnswer.the-variants.{Rows}
 use Rattle.phrase_file.specs.Form.{places}
 use Rattle.phrase_file.specs.Checks.{checkOf}
-use Rattle.tables.specs.InForm.{equal, rowSize}
+use Rattle.theory.specs.Lists.{equal}
+use Rattle.tables.specs.InForm.{rowSize}
 
 -- a file of n rows that passes 2 to 4, a table with room for their places, and one for their lengths
 pub record Passed (file placeTable : List ℕ) (n : ℕ) (sizes : List ℕ) : Type 0 where

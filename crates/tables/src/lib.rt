@@ -1,7 +1,6 @@
 // Whether dictionary tables are in form, as document 01 defines it, and the calls that need no more than that.
 ghost use mathlib.Core.Path.{_≡_};
 ghost use Prim.Native.Nat.{_<_};
-ghost use Rattle.placed_rows.specs.Texts.{Small};
 ghost use Rattle.tables.specs.Tables.{lent};
 ghost use Rattle.tables.specs.InForm.{allBelow, prefixInForm, partsInForm, rowInForm, formOf};
 ghost use Rattle.tables.specs.Answers.{NumTokens, TokenLen};
@@ -13,19 +12,13 @@ use marks::AREA;
 use placed_rows::NONE;
 use placed_rows::length_of;
 use placed_rows::wide;
+use placed_rows::wide_byte;
 
 // Whether tables are in form.
 pub enum Form {
     // The count of rows.
     Rows(usize),
     Out,
-}
-
-// A length byte as a number of bytes.
-fn wide_byte(x: u8) -> usize
-    ensures { λ r. ⌜ Small x 256 r ⌝ }
-{
-    x as usize
 }
 
 // Whether the places match the file; if so, sizes gets the lengths of the rows.

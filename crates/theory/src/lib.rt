@@ -1,12 +1,14 @@
 // Definitions and theorems only: specs/ has the definitions, proofs/ the theorems. A crate needs a source, and this
 // is it.
 ghost use mathlib.Core.Path.{_≡_};
+ghost use Rattle.theory.specs.Dictionary as Dictionary;
 
-// The number that stands for none: 4294967295.
+// "None" of document 01.
 pub const NONE: u32 = 4294967295;
 
+// The same.
 pub fn none() -> u32
-    ensures { λ r. ⌜ r ≡ 4294967295 ⌝ }
+    ensures { λ r. ⌜ r ≡ Dictionary.none ⌝ }
 {
     NONE
 }

@@ -13,9 +13,9 @@ use Rattle.theory.specs.Lists.{equal}
 use Rattle.theory.specs.Typing.{Side, inOrder, passesBeside, inForm}
 use Rattle.tables.specs.Tables.{Tables}
 use Rattle.tables.proofs.Sweeps.{all-same}
-use Rattle.built.specs.Built.{dictionaryOf}
-use Rattle.typing_core.specs.Refusals.{headOut}
-use Rattle.typing_core.specs.Columns.{lastCount, FormOf}
+use Rattle.built_tables.specs.Built.{dictionaryOf}
+use Rattle.typing_columns.specs.Refusals.{headOut}
+use Rattle.typing_columns.specs.Columns.{lastCount, FormOf}
 use Rattle.typing.specs.declared.State.{State}
 use Rattle.typing.specs.Records.{bytesOf, codesOf, countsOf}
 use Rattle.typing.specs.Steps.{usableOf, Copied}

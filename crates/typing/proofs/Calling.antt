@@ -14,9 +14,9 @@ use Rattle.tables.specs.InForm.{formOf}
 use Rattle.causes.specs.declared.Answer.{Answer}
 use Rattle.causes.specs.Call.{saying, toNumber}
 use Rattle.causes.proofs.Calls.{call-of, answer-with}
-use Rattle.built.specs.Built.{dictionaryOf, Built}
-use Rattle.typing_core.specs.Refusals.{headOut, extendRefusal, tokenCountRefusal}
-use Rattle.typing_core.specs.Columns.{lastCount, Typed, ExtendedColumns, CountedColumns}
+use Rattle.built_tables.specs.Built.{dictionaryOf, Built}
+use Rattle.typing_columns.specs.Refusals.{headOut, extendRefusal, tokenCountRefusal}
+use Rattle.typing_columns.specs.Columns.{lastCount, Typed, ExtendedColumns, CountedColumns}
 use Rattle.typing.specs.declared.State.{State}
 use Rattle.typing.specs.Records.{noState, entryOf, bytesOf, countsOf}
 use Rattle.typing.specs.Steps.{usableOf, endAfter, Room, ColumnsReady, Copied, Places, Stored}

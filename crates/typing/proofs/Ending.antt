@@ -13,7 +13,7 @@ use Rattle.causes.specs.Call.{saying, toNumber}
 use Rattle.causes.proofs.Calls.{call-of}
 use Rattle.causes.specs.declared.Answer.the-variants.{Number, Refused}
 use Rattle.causes.specs.declared.Cause.the-variants.{OutOfForm}
-use Rattle.typing_core.specs.Refusals.{headOut, truncateRefusal}
+use Rattle.typing_columns.specs.Refusals.{headOut, truncateRefusal}
 use Rattle.typing.specs.Calls.{Truncated}
 use Rattle.typing.specs.Steps.{usableOf, endAfter}
 

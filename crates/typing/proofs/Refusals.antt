@@ -13,7 +13,7 @@ use Rattle.causes.specs.Order.{otherOrder, when}
 use Rattle.causes.proofs.None.{AllFail, none-applies, neither}
 use Rattle.tables.specs.Tables.{Tables}
 use Rattle.tables.specs.InForm.{isOut, formOf}
-use Rattle.typing_core.specs.Refusals.{headOut, anyOut, extendConditions, extendRefusal, tokenCountRefusal}
+use Rattle.typing_columns.specs.Refusals.{headOut, anyOut, extendConditions, extendRefusal, tokenCountRefusal}
 
 -- the head's length is within the slice and 4,096
 pub head-fits : (len size : ℕ) → headOut len size ≡ false → (len ≤ size) × (len ≤ 4096)

@@ -28,11 +28,11 @@ use Rattle.causes.specs.declared.Answer.the-variants.{Number}
 use Rattle.causes.specs.Call.{saying, toNumber}
 use Rattle.causes.proofs.Calls.{given-answer, answer-with}
 use Rattle.tables.proofs.Sweeps.{each-all}
-use Rattle.built.specs.Built.{dictionaryOf, Built}
-use Rattle.built.proofs.Rows.{lawful-is, known}
-use Rattle.built.proofs.InForm.{in-form}
-use Rattle.typing_core.specs.Refusals.{headOut, extendRefusal, tokenCountRefusal}
-use Rattle.typing_core.specs.Columns.{FormOf, lastCount}
+use Rattle.built_tables.specs.Built.{dictionaryOf, Built}
+use Rattle.built_tables.proofs.Rows.{lawful-is, known}
+use Rattle.built_tables.proofs.InForm.{in-form}
+use Rattle.typing_columns.specs.Refusals.{headOut, extendRefusal, tokenCountRefusal}
+use Rattle.typing_columns.specs.Columns.{FormOf, lastCount}
 use Rattle.typing.specs.declared.State.{State}
 use Rattle.typing.specs.Records.{noState, entryOf, bytesOf, codesOf, countsOf}
 use Rattle.typing.specs.Steps.{endAfter}

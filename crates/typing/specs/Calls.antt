@@ -12,9 +12,9 @@ use Rattle.tables.specs.Tables.{Tables}
 use Rattle.tables.specs.InForm.{formOf}
 use Rattle.causes.specs.declared.Answer.{Answer}
 use Rattle.causes.specs.Call.{Call, toNumber, noBuffer}
-use Rattle.built.specs.Built.{dictionaryOf, Built}
-use Rattle.typing_core.specs.Refusals.{extendRefusal, tokenCountRefusal, truncateRefusal}
-use Rattle.typing_core.specs.Columns.{lastCount, FormOf}
+use Rattle.built_tables.specs.Built.{dictionaryOf, Built}
+use Rattle.typing_columns.specs.Refusals.{extendRefusal, tokenCountRefusal, truncateRefusal}
+use Rattle.typing_columns.specs.Columns.{lastCount, FormOf}
 use Rattle.typing.specs.declared.State.{State}
 use Rattle.typing.specs.Records.{noState, entryOf, bytesOf, codesOf, countsOf}
 

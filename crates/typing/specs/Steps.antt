@@ -7,7 +7,7 @@ use Prim.Native.Nat.{ℕ, _<_, _≤_}
 use lib.ListN.{length, getD, take, drop}
 use Rattle.causes.specs.declared.Answer.{Answer}
 use Rattle.causes.specs.declared.Answer.the-variants.{Number, Refused}
-use Rattle.typing_core.specs.Refusals.{headOut}
+use Rattle.typing_columns.specs.Refusals.{headOut}
 use Rattle.typing.specs.declared.State.{State}
 use Rattle.typing.specs.Records.{noState, bytesOf, codesOf, countsOf}
 

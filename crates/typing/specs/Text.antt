@@ -7,7 +7,7 @@ use lib.ListN.{length, getD, drop}
 use Rattle.theory.specs.Typing as Typing
 use Rattle.tables.specs.Tables.{Tables}
 use Rattle.tables.specs.InForm.{isOut, formOf}
-use Rattle.built.specs.Built.{dictionaryOf, Built}
+use Rattle.built_tables.specs.Built.{dictionaryOf, Built}
 
 -- the number of bytes typed, and the count after each; over tables that a build left all are typed for which there is
 -- room, and the counts are those of the merge procedure. Entries from that number on are as before. Over tables in

@@ -6,15 +6,15 @@ ghost use mathlib.Core.List.{[], _∷_};
 ghost use Prim.Native.Nat.{min};
 ghost use lib.ListN.{length};
 ghost use Rattle.causes.specs.Call.{saying, toNumber};
-ghost use Rattle.typing_core.specs.Sides.{sideOf};
-ghost use Rattle.typing_core.specs.Refusals.{headOut, truncateRefusal};
+ghost use Rattle.typing_columns.specs.Sides.{sideOf};
+ghost use Rattle.typing_columns.specs.Refusals.{headOut, truncateRefusal};
 ghost use Rattle.typing.specs.Steps.{usableOf, endAfter, stateOf, ColumnsReady, Copied, Places, Stored};
 ghost use Rattle.typing.specs.Calls.{Extended, TokenCounted, Truncated};
 ghost use Rattle.typing.specs.Text.{TextTyped};
 ghost use Rattle.tables.specs.Tables.{lent, before, after};
 use causes::Answer;
 use causes::Cause;
-use typing_core::Side;
+use typing_columns::Side;
 
 // A typing record: a byte, the last code of the text up to it (in prepending the first code), and the number of its
 // codes.
@@ -192,7 +192,7 @@ pub fn token_count(
         &mut codes,
         &mut counts,
     );
-    typing_core::count_columns(
+    typing_columns::count_columns(
         side,
         file,
         places,
@@ -238,7 +238,7 @@ pub fn extend(
         &mut codes,
         &mut counts,
     );
-    let answer = typing_core::extend_columns(
+    let answer = typing_columns::extend_columns(
         side,
         file,
         places,

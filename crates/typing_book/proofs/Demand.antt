@@ -7,7 +7,7 @@ use lib.ListN.{length}
 use Rattle.theory.specs.Dictionary.{Dictionary}
 use Rattle.theory.specs.Typing.{Side, inOrder}
 use Rattle.theory.proofs.Sides.{inOrder-nil, length-inOrder}
-use Rattle.built.specs.Built.{dictionaryOf, Built}
+use Rattle.built_tables.specs.Built.{dictionaryOf, Built}
 use Rattle.typing_book.specs.Book.{bookAfter, bookRecord}
 use Rattle.typing_book.specs.Run.{Lent, Event, OctetCalls, Run, AsTheBook, AllAsTheBook}
 use Rattle.typing_book.proofs.Texts.{record-is}

@@ -21,11 +21,11 @@ use Rattle.causes.specs.Order.{otherOrder, when, over, firstOf}
 use Rattle.tables.specs.Tables.{Tables}
 use Rattle.tables.specs.InForm.{formOf, allBelow}
 use Rattle.tables.proofs.Sweeps.{each-all}
-use Rattle.built.specs.Built.{dictionaryOf, Built}
-use Rattle.built.proofs.Rows.{lawful-is, known}
-use Rattle.built.proofs.InForm.{in-form}
-use Rattle.typing_core.specs.Refusals.{headOut, full, extendRefusal, tokenCountRefusal, truncateRefusal}
-use Rattle.typing_core.specs.Columns.{lastCount, FormOf}
+use Rattle.built_tables.specs.Built.{dictionaryOf, Built}
+use Rattle.built_tables.proofs.Rows.{lawful-is, known}
+use Rattle.built_tables.proofs.InForm.{in-form}
+use Rattle.typing_columns.specs.Refusals.{headOut, full, extendRefusal, tokenCountRefusal, truncateRefusal}
+use Rattle.typing_columns.specs.Columns.{lastCount, FormOf}
 use Rattle.typing.specs.declared.State.{State}
 use Rattle.typing.specs.Records.{noState, entryOf, bytesOf, codesOf, countsOf}
 use Rattle.typing_book.specs.Run.{Lent}

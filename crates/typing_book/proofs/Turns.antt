@@ -25,8 +25,8 @@ use Rattle.causes.specs.Order.{otherOrder, when, over, firstOf}
 use Rattle.causes.specs.Call.{saying, toNumber}
 use Rattle.causes.proofs.Calls.{given-answer, answer-with}
 use Rattle.causes.proofs.None.{none-applies, neither}
-use Rattle.built.specs.Built.{dictionaryOf, Built}
-use Rattle.typing_core.specs.Refusals.{full, extendRefusal, tokenCountRefusal, truncateRefusal}
+use Rattle.built_tables.specs.Built.{dictionaryOf, Built}
+use Rattle.typing_columns.specs.Refusals.{full, extendRefusal, tokenCountRefusal, truncateRefusal}
 use Rattle.typing.specs.declared.State.{State}
 use Rattle.typing.specs.Records.{noState, entryOf}
 use Rattle.typing.specs.Calls.{Extended, TokenCounted, Truncated}

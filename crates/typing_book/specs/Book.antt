@@ -12,7 +12,7 @@ use Rattle.causes.specs.declared.Cause.the-variants.{TooLong, Full}
 use Rattle.causes.specs.declared.Answer.{Answer}
 use Rattle.causes.specs.Order.{otherOrder, when, over, firstOf}
 use Rattle.causes.specs.Call.{saying, toNumber}
-use Rattle.typing_core.specs.Refusals.{full}
+use Rattle.typing_columns.specs.Refusals.{full}
 
 -- the calls of a list
 pub data Call : Type 0 where

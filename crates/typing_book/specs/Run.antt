@@ -8,7 +8,7 @@ use Rattle.theory.specs.Dictionary.{Octets}
 use Rattle.theory.specs.Typing.{Side}
 use Rattle.tables.specs.Tables.{Tables}
 use Rattle.causes.specs.declared.Answer.{Answer}
-use Rattle.built.specs.Built.{dictionaryOf}
+use Rattle.built_tables.specs.Built.{dictionaryOf}
 use Rattle.typing.specs.declared.State.{State}
 use Rattle.typing.specs.Records.{noState, entryOf}
 use Rattle.typing.specs.Calls.{Extended, TokenCounted, Truncated}

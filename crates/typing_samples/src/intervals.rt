@@ -93,7 +93,7 @@ fn count_sample(
 }
 
 // Prints the counts of four pieces of "abcd", two of which are refused.
-pub fn say_samples(
+pub(crate) fn say_samples(
     file: &[u8],
     places: &[u32],
     lefts: &[u32],
@@ -170,7 +170,7 @@ fn compare_piece(
 }
 
 // Compares the counts of all pieces of a text: 201 starts and 201 ends.
-pub fn all_pieces(
+pub(crate) fn all_pieces(
     file: &[u8],
     places: &[u32],
     lefts: &[u32],

@@ -9,7 +9,7 @@ use intervals::all_pieces;
 use said::say_four;
 use said::say_tally;
 use texts::Text;
-use typing_core::Side;
+use typing_columns::Side;
 use typing_texts::by_bytes;
 use typing_texts::by_pieces;
 use words::say;

@@ -8,7 +8,7 @@ use words::wide;
 pub type Tally = [u64; 2];
 
 // The first four numbers.
-pub fn say_four(name: &[u8], counts: &[u32; 4096]) {
+pub(crate) fn say_four(name: &[u8], counts: &[u32; 4096]) {
     say(name);
     say_field(wide(counts[0]));
     say_field(wide(counts[1]));
@@ -18,7 +18,7 @@ pub fn say_four(name: &[u8], counts: &[u32; 4096]) {
 }
 
 // The number that an answer holds, or the refusal and its place.
-pub fn say_answer(name: &[u8], answer: Answer) {
+pub(crate) fn say_answer(name: &[u8], answer: Answer) {
     say(name);
     let refusal = causes::answer_number(answer);
     if refusal != 0 {
@@ -30,7 +30,7 @@ pub fn say_answer(name: &[u8], answer: Answer) {
     say(b"\n");
 }
 
-pub fn say_tally(name: &[u8], tally: Tally) {
+pub(crate) fn say_tally(name: &[u8], tally: Tally) {
     say(name);
     say(b" compared");
     say_field(tally[0]);
@@ -40,7 +40,7 @@ pub fn say_tally(name: &[u8], tally: Tally) {
 }
 
 // The number that an answer holds, or the largest number in place of a refusal.
-pub fn held(answer: Answer) -> u64 {
+pub(crate) fn held(answer: Answer) -> u64 {
     match answer {
         Answer::Number(count) => count as u64,
         Answer::Refused(_) => u64::MAX,
@@ -48,7 +48,7 @@ pub fn held(answer: Answer) -> u64 {
 }
 
 // Counts a number that was compared with an answer. A refusal differs from every number.
-pub fn compare(tally: &mut Tally, found: u64, wanted: Answer) {
+pub(crate) fn compare(tally: &mut Tally, found: u64, wanted: Answer) {
     tally[0] = std::num::wrapping_add_u64(tally[0], 1);
     if causes::answer_number(wanted) != 0 || causes::answer_place(wanted) != found {
         tally[1] = std::num::wrapping_add_u64(tally[1], 1);

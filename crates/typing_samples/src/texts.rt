@@ -34,7 +34,7 @@ fn put_pair(file: &mut [u8], at: usize, first: u8, second: u8) -> usize {
 }
 
 // Writes the file E and gives its size.
-pub fn put_sample_e(file: &mut [u8]) -> usize {
+pub(crate) fn put_sample_e(file: &mut [u8]) -> usize {
     let mut end = put_letters(file);
     end = put_pair(file, end, b'b', b'c');
     end = put_pair(file, end, b'a', b'b');
@@ -52,7 +52,7 @@ fn letter(x: u64) -> u8 {
 }
 
 // Fills a text with such letters.
-pub fn draw(text: &mut [u8], seed: u64) {
+pub(crate) fn draw(text: &mut [u8], seed: u64) {
     let mut x = seed;
     let mut i = 0;
     while i < text.len() {
@@ -71,7 +71,7 @@ fn put_both(text: &mut Text, mirror: &mut Text, at: usize, byte: u8) {
 }
 
 // Writes a piece into a text and its mirror from a place on, as far as there is room.
-pub fn put_piece(text: &mut Text, mirror: &mut Text, at: usize, piece: &[u8]) {
+pub(crate) fn put_piece(text: &mut Text, mirror: &mut Text, at: usize, piece: &[u8]) {
     let mut i = 0;
     while i < piece.len() {
         put_both(text, mirror, std::num::wrapping_add_usize(at, i), piece[i]);
@@ -80,7 +80,7 @@ pub fn put_piece(text: &mut Text, mirror: &mut Text, at: usize, piece: &[u8]) {
 }
 
 // The last k bytes, or all if there are fewer.
-pub fn back(s: &[u8], k: usize) -> &[u8] {
+pub(crate) fn back(s: &[u8], k: usize) -> &[u8] {
     if s.len() < k {
         return s;
     }

@@ -6,7 +6,7 @@ use crate::texts::Text;
 use crate::texts::back;
 use crate::texts::put_piece;
 use causes::Answer;
-use typing_core::Side;
+use typing_columns::Side;
 use words::front;
 use words::front_numbers;
 use words::part;
@@ -94,7 +94,7 @@ fn compare_all(
 }
 
 // Types a text, one byte after the other, into records, and compares the count after each.
-pub fn by_bytes(
+pub(crate) fn by_bytes(
     side: Side,
     file: &[u8],
     places: &[u32],
@@ -167,7 +167,7 @@ fn type_piece(
     work: &mut Numbers,
     tally: &mut Tally,
 ) -> usize {
-    let extended = typing_core::extend_columns(
+    let extended = typing_columns::extend_columns(
         side,
         file,
         places,
@@ -184,7 +184,7 @@ fn type_piece(
     );
     let end = held(extended) as usize;
     put_piece(book, mirror, len, piece);
-    let counted = typing_core::count_columns(
+    let counted = typing_columns::count_columns(
         side,
         file,
         places,
@@ -217,7 +217,7 @@ fn type_piece(
 
 // Types a text in pieces of 1, 2, 3, .. bytes, as it is or with half of each piece taken back before the next one.
 // The bytes typed so far are kept in a book of our own.
-pub fn by_pieces(
+pub(crate) fn by_pieces(
     side: Side,
     file: &[u8],
     places: &[u32],

@@ -33,11 +33,6 @@ pub fn front_numbers(s: &[u32], k: usize) -> &[u32] {
     &s[0..k]
 }
 
-// The first k bytes to write to, or all if there are fewer.
-pub fn lent(s: &mut [u8], k: usize) -> &mut [u8] {
-    if s.len() < k { s } else { &mut s[0..k] }
-}
-
 // How many bytes stand before the first one of this value; all of them if there is none.
 pub fn count_before(s: &[u8], byte: u8) -> usize {
     let mut i = 0;
@@ -73,11 +68,6 @@ pub fn is(word: &[u8], name: &[u8]) -> bool {
     check::same(word, name)
 }
 
-// Whether a text begins with this one.
-pub fn begins(text: &[u8], start: &[u8]) -> bool {
-    check::same(front(text, start.len()), start)
-}
-
 // Writes a byte at a place, if there is room, and gives the next place.
 pub fn put(out: &mut [u8], at: usize, byte: u8) -> usize {
     if at < out.len() {
@@ -96,29 +86,4 @@ pub fn put_all(out: &mut [u8], at: usize, bytes: &[u8]) -> usize {
         i += 1;
     }
     end
-}
-
-// How many words a command line has. Each word ends with a byte 0, which no argument of a program holds.
-pub fn word_count(line: &[u8]) -> usize {
-    let mut count = 0;
-    let mut at = 0;
-    while at < line.len() {
-        at = after(line, at, 0);
-        count += 1;
-    }
-    count
-}
-
-// A word of a command line, counted from 0; nothing if there is none.
-pub fn word(line: &[u8], i: usize) -> &[u8] {
-    let mut left = i;
-    let mut at = 0;
-    while at < line.len() {
-        if left == 0 {
-            return until(line, at, 0);
-        }
-        at = after(line, at, 0);
-        left -= 1;
-    }
-    back(line, line.len())
 }

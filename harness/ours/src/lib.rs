@@ -1,5 +1,5 @@
 //! The proved library behind safe functions. Nothing checks these declarations against its source: they follow
-//! crates/exports/src and crates/measured/src, where a slice is a pointer and a length in elements.
+//! crates/nahypora/src and crates/bench_exports/src, where a slice is a pointer and a length in elements.
 
 /// Declares exported functions with the file, the tables and the area in front of their own arguments.
 macro_rules! declare {

@@ -10,11 +10,11 @@ use Rattle.backtrack_encoder.proofs.count_till_limit_core.Tie as tie
 use Rattle.tables.specs.Tables.{tables}
 
 abbrev Inv-loop : tie.InvT-loop
-Inv-loop file places lefts rights prefixes area n text limit work₀ limit-with-buffer dead₀ encoder₀ steps₀ work dead encoder steps =
-    Limiting (tables file places lefts rights prefixes area) n text work₀ limit steps encoder work dead
+Inv-loop file places lefts rights prefixes area n text limit work₀ limit-with-buffer alive₀ encoder₀ steps₀ work alive encoder steps =
+    Limiting (tables file places lefts rights prefixes area) n text work₀ limit steps encoder work alive
 
 abbrev μ-loop : tie.MeasureT-loop
-μ-loop file places lefts rights prefixes area n text limit work₀ limit-with-buffer dead₀ encoder₀ steps₀ work dead encoder steps =
+μ-loop file places lefts rights prefixes area n text limit work₀ limit-with-buffer alive₀ encoder₀ steps₀ work alive encoder steps =
     steps
 
 buffered-requires : tie.Need-buffered-requires Inv-loop μ-loop

@@ -12,11 +12,11 @@ use Rattle.backtrack_encoder.proofs.first_fit.Tie as tie
 use Rattle.tables.specs.Tables.{tables}
 
 abbrev Inv-loop : tie.InvT-loop
-Inv-loop file places lefts rights prefixes area n text encoder work dead token₀ token =
-    Trying (tables file places lefts rights prefixes area) n text encoder work dead token
+Inv-loop file places lefts rights prefixes area n text encoder work alive token₀ token =
+    Trying (tables file places lefts rights prefixes area) n text encoder work alive token
 
 abbrev μ-loop : tie.MeasureT-loop
-μ-loop file places lefts rights prefixes area n text encoder work dead token₀ token =
+μ-loop file places lefts rights prefixes area n text encoder work alive token₀ token =
     length (getD (rows file) token [])
 
 loop-holds : tie.Need-loop-holds Inv-loop μ-loop

@@ -3,7 +3,7 @@ use mathlib.Core.Path.{_≡_, ap, _∙_}
 use mathlib.Core.List.{List}
 use Prim.Native.Nat.{ℕ, _≤_, _-_}
 use lib.ListN.{length, set}
-use Rattle.placed_rows.specs.Rows.{none}
+use Rattle.theory.specs.Dictionary.{none}
 use native.Mathlib.Omega.{arith}
 use Rattle.clashes.specs.Buckets.{emptied}
 use Rattle.clashes.proofs.Chains.{emptied-start, emptied-more, emptied-length}

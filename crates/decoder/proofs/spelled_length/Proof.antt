@@ -4,7 +4,7 @@ use Prim.Native.Nat.{_-_}
 use native.Mathlib.Omega.{arith}
 use lib.ListN.{length}
 use borrow.Author.Needs.{needs}
-use Rattle.built.specs.Built.{dictionaryOf}
+use Rattle.built_tables.specs.Built.{dictionaryOf}
 use Rattle.decoder.proofs.Spelling.{code-row, Counted, counted-start, counted-more, counted-all}
 use Rattle.decoder.proofs.spelled_length.Statement.{statement}
 use Rattle.decoder.proofs.spelled_length.Tie as tie

@@ -4,7 +4,7 @@ use Prim.Native.Nat.{_+_, _≤_, _-_}
 use native.Mathlib.Omega.{arith}
 use lib.ListN.{getD, length}
 use borrow.Author.Needs.{needs}
-use Rattle.built.specs.Built.{dictionaryOf}
+use Rattle.built_tables.specs.Built.{dictionaryOf}
 use Rattle.decoder.proofs.Spelling.{CodeRow, code-row, Written, written-start, written-all, written-fits, copy-ready, written-more}
 use Rattle.decoder.proofs.write_spelled.Statement.{statement}
 use Rattle.decoder.proofs.write_spelled.Tie as tie

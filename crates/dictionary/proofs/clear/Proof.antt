@@ -4,7 +4,7 @@ use mathlib.Core.Path.{_≡_, ap, _∙_}
 use mathlib.Core.List.{List}
 use Prim.Native.Nat.{ℕ, _-_, _≤_}
 use lib.ListN.{length, set}
-use Rattle.placed_rows.specs.Rows.{none}
+use Rattle.theory.specs.Dictionary.{none}
 use Rattle.dictionary.specs.Build.{cleared}
 use Rattle.dictionary.proofs.Clearing.{cleared-start, cleared-more, cleared-length}
 use borrow.Author.Needs.{needs}

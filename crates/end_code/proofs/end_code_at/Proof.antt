@@ -33,23 +33,23 @@ first-join-requires c κs = join-ready _ _ _ _ _ _ _ _ (c .before .before .loop 
 returns : tie.Need-returns Inv-loop μ-loop
 returns c = reach-end _ _ _ _ _ _ _ _ (c .before .before .before .before .loop .inv) (c .before .before .before .loop-test .taken) _ (c .before .first-join .ensures) (c .if1 .taken)
 
-other-part-requires : tie.Need-other-part-requires Inv-loop μ-loop
-other-part-requires c κs = joined-part _ _ _ _ _ _ _ _ (c .before .before .before .before .loop .inv) (c .before .before .before .loop-test .taken) _ (c .before .first-join .ensures) (c .if1 .left)
+part-of-requires : tie.Need-part-of-requires Inv-loop μ-loop
+part-of-requires c κs = joined-part _ _ _ _ _ _ _ _ (c .before .before .before .before .loop .inv) (c .before .before .before .loop-test .taken) _ (c .before .first-join .ensures) (c .if1 .left)
 
 wide-requires : tie.Need-wide-requires Inv-loop μ-loop
 wide-requires c κs = search needs
 
 length-of-requires : tie.Need-length-of-requires Inv-loop μ-loop
-length-of-requires c κs = (c .before .before .before .before .before .before .loop .inv .ready .in-form .places-ready .placed, (let z = joined-other _ _ _ _ _ _ _ _ (c .before .before .before .before .before .before .loop .inv) (c .before .before .before .before .before .loop-test .taken) _ (c .before .before .before .first-join .ensures) (c .before .before .if1 .left) _ (c .before .other-part .ensures) in omega (arith, c .wide .ensures .is)))
+length-of-requires c κs = (c .before .before .before .before .before .before .loop .inv .ready .in-form .places-ready .placed, (let z = joined-other _ _ _ _ _ _ _ _ (c .before .before .before .before .before .before .loop .inv) (c .before .before .before .before .before .loop-test .taken) _ (c .before .before .before .first-join .ensures) (c .before .before .if1 .left) _ (c .before .part-of .ensures) in omega (arith, c .wide .ensures .is)))
 
 returns-2 : tie.Need-returns-2 Inv-loop μ-loop
-returns-2 c = reach-short _ _ _ _ _ _ _ _ (c .before .before .before .before .before .before .before .before .loop .inv) (c .before .before .before .before .before .before .before .loop-test .taken) _ (c .before .before .before .before .before .first-join .ensures) (c .before .before .before .before .if1 .left) _ _ (c .before .before .before .other-part .ensures) _ (c .before .length-of .ensures .is) (c .before .before .wide .ensures .is) (c .if2 .taken)
+returns-2 c = reach-short _ _ _ _ _ _ _ _ (c .before .before .before .before .before .before .before .before .loop .inv) (c .before .before .before .before .before .before .before .loop-test .taken) _ (c .before .before .before .before .before .first-join .ensures) (c .before .before .before .before .if1 .left) _ _ (c .before .before .before .part-of .ensures) _ (c .before .length-of .ensures .is) (c .before .before .wide .ensures .is) (c .if2 .taken)
 
 loop-less : tie.Need-loop-less Inv-loop μ-loop
-loop-less c = let z = len-some _ _ _ _ _ _ _ _ (c .before .before .before .before .before .before .before .before .loop .inv) (c .before .before .before .before .before .before .before .loop-test .taken) _ (c .before .before .before .before .before .first-join .ensures) (c .before .before .before .before .if1 .left) _ _ (c .before .before .before .other-part .ensures) _ (c .before .length-of .ensures .is) (c .before .before .wide .ensures .is) in omega arith
+loop-less c = let z = len-some _ _ _ _ _ _ _ _ (c .before .before .before .before .before .before .before .before .loop .inv) (c .before .before .before .before .before .before .before .loop-test .taken) _ (c .before .before .before .before .before .first-join .ensures) (c .before .before .before .before .if1 .left) _ _ (c .before .before .before .part-of .ensures) _ (c .before .length-of .ensures .is) (c .before .before .wide .ensures .is) in omega arith
 
 loop-again : tie.Need-loop-again Inv-loop μ-loop
-loop-again c = reach-join _ _ _ _ _ _ _ _ (c .before .before .before .before .before .before .before .before .loop .inv) (c .before .before .before .before .before .before .before .loop-test .taken) _ (c .before .before .before .before .before .first-join .ensures) (c .before .before .before .before .if1 .left) _ _ (c .before .before .before .other-part .ensures) _ (c .before .length-of .ensures .is) (c .before .before .wide .ensures .is) (omega arith)
+loop-again c = reach-join _ _ _ _ _ _ _ _ (c .before .before .before .before .before .before .before .before .loop .inv) (c .before .before .before .before .before .before .before .loop-test .taken) _ (c .before .before .before .before .before .first-join .ensures) (c .before .before .before .before .if1 .left) _ _ (c .before .before .before .part-of .ensures) _ (c .before .length-of .ensures .is) (c .before .before .wide .ensures .is) (omega arith)
 
 returns-3 : tie.Need-returns-3 Inv-loop μ-loop
 returns-3 c = reach-all _ _ _ _ _ _ _ _ (c .before .loop .inv) (omega arith)
@@ -67,7 +67,7 @@ end-code-at-spec =
     shared-slice-read-before
     first-join-requires
     returns
-    other-part-requires
+    part-of-requires
     wide-requires
     length-of-requires
     returns-2

@@ -23,20 +23,20 @@ join-beside-requires c κs = search needs
 or-else-requires : tie.Need-or-else-requires Inv-loop μ-loop
 or-else-requires c κs = search needs
 
-inner-part-requires : tie.Need-inner-part-requires Inv-loop μ-loop
-inner-part-requires c κs = search needs
+part-of-requires : tie.Need-part-of-requires Inv-loop μ-loop
+part-of-requires c κs = search needs
 
 returns : tie.Need-returns Inv-loop μ-loop
-returns c = search-end _ _ _ _ _ _ _ _ _ (c .before .before .before .before .loop .inv) (c .before .before .before .join-beside .ensures) _ _ (c .before .before .or-else .ensures) (c .before .inner-part .ensures) (c .if1 .taken)
+returns c = search-end _ _ _ _ _ _ _ _ _ (c .before .before .before .before .loop .inv) (c .before .before .before .join-beside .ensures) _ _ (c .before .before .or-else .ensures) (c .before .part-of .ensures) (c .if1 .taken)
 
 bound-at-requires : tie.Need-bound-at-requires Inv-loop μ-loop
 bound-at-requires c κs = search needs
 
 loop-less : tie.Need-loop-less Inv-loop μ-loop
-loop-less c = search-next _ _ _ _ _ _ _ _ _ (c .before .before .before .before .before .loop .inv) (c .before .before .before .before .join-beside .ensures) _ _ _ (c .before .before .before .or-else .ensures) (c .before .before .inner-part .ensures) (c .before .if1 .left) (c .bound-at .ensures) .0
+loop-less c = search-next _ _ _ _ _ _ _ _ _ (c .before .before .before .before .before .loop .inv) (c .before .before .before .before .join-beside .ensures) _ _ _ (c .before .before .before .or-else .ensures) (c .before .before .part-of .ensures) (c .before .if1 .left) (c .bound-at .ensures) .0
 
 loop-again : tie.Need-loop-again Inv-loop μ-loop
-loop-again c = search-next _ _ _ _ _ _ _ _ _ (c .before .before .before .before .before .loop .inv) (c .before .before .before .before .join-beside .ensures) _ _ _ (c .before .before .before .or-else .ensures) (c .before .before .inner-part .ensures) (c .before .if1 .left) (c .bound-at .ensures) .1
+loop-again c = search-next _ _ _ _ _ _ _ _ _ (c .before .before .before .before .before .loop .inv) (c .before .before .before .before .join-beside .ensures) _ _ _ (c .before .before .before .or-else .ensures) (c .before .before .part-of .ensures) (c .before .if1 .left) (c .bound-at .ensures) .1
 
 pub first-join-spec : {M : Type 1} → statement M
 first-join-spec =
@@ -48,7 +48,7 @@ first-join-spec =
     loop-holds
     join-beside-requires
     or-else-requires
-    inner-part-requires
+    part-of-requires
     returns
     bound-at-requires
     loop-less

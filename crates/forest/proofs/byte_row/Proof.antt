@@ -26,7 +26,7 @@ returns c =
     let a = c .before .before .before .before .before .before .before .args in
     record {
       bound = inl refl;
-      is = λ S I d s e. absurd (omega (arith, c .if1 .taken, c .before .row-of .ensures .is, row-is _ _ _ _ _ (ap (λ (i : ℕ). getD (a .half .now) i 0) (c .before .before .before .root-bucket .ensures .is)) S I d s e, I .below d s));
+      is = λ S I d s e. absurd (omega (arith, c .if1 .taken, c .before .row-of .ensures .is, row-is _ _ _ _ _ (ap (λ (i : ℕ). getD (a .area .now) i 0) (c .before .before .before .root-bucket .ensures .is)) S I d s e, I .below d s));
     }
 
 returns-2 : tie.Need-returns-2
@@ -34,7 +34,7 @@ returns-2 c =
     let a = c .before .before .before .before .before .before .before .args in
     record {
       bound = inr (omega (arith, c .if1 .left, c .before .row-of .ensures .is));
-      is = λ S I d s e. row-is _ _ _ _ _ (ap (λ (i : ℕ). getD (a .half .now) i 0) (c .before .before .before .root-bucket .ensures .is)) S I d s e;
+      is = λ S I d s e. row-is _ _ _ _ _ (ap (λ (i : ℕ). getD (a .area .now) i 0) (c .before .before .before .root-bucket .ensures .is)) S I d s e;
     }
 
 pub byte-row-spec : {M : Type 1} → statement M

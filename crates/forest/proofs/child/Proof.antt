@@ -41,7 +41,7 @@ shared-slice-read-bucket-child c = search needs
 bucket-child-requires : tie.Need-bucket-child-requires
 bucket-child-requires c κs =
     let s = c .before .before .before .before .before .before .before .before .before .before in
-    (s .pre .0, ((s .pre .1 .0 .1 .0, (omega (arith, c .before .before .before .before .before .if1 .left), ap (λ (i : ℕ). getD (s .args .half .now) i 0) (c .before .bucket .ensures .is))), s .pre .1 .1))
+    (s .pre .0, ((s .pre .1 .0 .1 .0, (omega (arith, c .before .before .before .before .before .if1 .left), ap (λ (i : ℕ). getD (s .args .area .now) i 0) (c .before .bucket .ensures .is))), s .pre .1 .1))
 
 returns-3 : tie.Need-returns-3
 returns-3 c = c .bucket-child .ensures

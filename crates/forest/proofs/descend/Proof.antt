@@ -14,19 +14,19 @@ use Rattle.forest.proofs.descend.Statement.{statement}
 use Rattle.forest.proofs.descend.Tie as tie
 
 abbrev Inv-loop : tie.InvT-loop
-Inv-loop file places n half from len text at best₀ end₀ best end =
-    (at ≤ end) × ((end ≤ length text) × ((best < n) × Descending (row file places n) n half from len (drop at text) best (len + (end - at)) (end - at)))
+Inv-loop file places n area from len text at best₀ end₀ best end =
+    (at ≤ end) × ((end ≤ length text) × ((best < n) × Descending (row file places n) n area from len (drop at text) best (len + (end - at)) (end - at)))
 
 abbrev μ-loop : tie.MeasureT-loop
-μ-loop file places n half from len text at best₀ end₀ best end = length text - end
+μ-loop file places n area from len text at best₀ end₀ best end = length text - end
 
 -- no more bytes are used than the text has from the place on
 inside : (t : List ℕ) (k i : ℕ) → k ≤ i → i ≤ length t → i - k ≤ length (drop k t)
 inside t k i h l = omega (arith, length-drop k t)
 
 -- the same place, by other sums
-here : {R : ℕ → List ℕ} {n : ℕ} {half : List ℕ} {from len : ℕ} {text : List ℕ} {best size size' k k' : ℕ} → size ≡ size' → k ≡ k'
-    → Descending R n half from len text best size k → Descending R n half from len text best size' k'
+here : {R : ℕ → List ℕ} {n : ℕ} {area : List ℕ} {from len : ℕ} {text : List ℕ} {best size size' k k' : ℕ} → size ≡ size' → k ≡ k'
+    → Descending R n area from len text best size k → Descending R n area from len text best size' k'
 here e f D = rw (sym e, sym f) D
 
 loop-holds : tie.Need-loop-holds Inv-loop μ-loop
@@ -91,7 +91,7 @@ loop-again c =
     let a = s .args in
     let l = c .before .before .before .before .before .before .before .before .before .before .loop in
     let h = c .before .before .before .before .before .bucket in
-    let q : row-of (getD (a .half .now) (h .result) 0) < a .n = omega (arith, c .before .before .before .row-of .ensures .is, c .before .before .if2 .left) in
+    let q : row-of (getD (a .area .now) (h .result) 0) < a .n = omega (arith, c .before .before .before .row-of .ensures .is, c .before .before .if2 .left) in
     let t = turn _ _ _ _ _ _ _ _ _ _ _ _ (inside _ _ _ (l .inv .0) (l .inv .1 .0)) (l .inv .1 .1 .1)
     (one-at _ _ _ _ _ (a .text .now) (l .end) _ (h .result) (a .len + (l .end - a .at) + 1) (h .ensures .is) refl (c .before .is-one-longer .ensures (c .if3 .taken)) q (s .pre .0 .few)
     (omega (arith, c .before .before .before .before .before .before .before .before .shared-slice-known5 .given (l .end)))
@@ -117,7 +117,7 @@ returns-3 c =
 -- what the child leaves
 gone : (c : tie.After-struct-known Inv-loop μ-loop)
     → let a = c .before .before .before .before .before .before .before .before .before .before .before .before .before .before .before .before .before .before .args in let l = c .before .before .before .before .before .before .before .before .before .before .before .before .before .loop in let r = c .before .before .child .result in
-    Turn (row (a .file .now) (a .places .now) (a .n)) (a .n) (a .half .now) (a .from) (a .len) (drop (a .at) (a .text .now)) (l .best) (a .len + (l .end - a .at)) (l .end - a .at) (r .row) (r .len)
+    Turn (row (a .file .now) (a .places .now) (a .n)) (a .n) (a .area .now) (a .from) (a .len) (drop (a .at) (a .text .now)) (l .best) (a .len + (l .end - a .at)) (l .end - a .at) (r .row) (r .len)
 gone c =
     let a = c .before .before .before .before .before .before .before .before .before .before .before .before .before .before .before .before .before .before .args in
     let l = c .before .before .before .before .before .before .before .before .before .before .before .before .before .loop in

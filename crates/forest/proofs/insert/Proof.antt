@@ -1,4 +1,4 @@
--- Rests on the descent, which ends at the prefix of row c, and on the law that a push there keeps the half in order. Assumes nothing.
+-- Rests on the descent, which ends at the prefix of row c, and on the law that a push there keeps the area in order. Assumes nothing.
 use mathlib.Core.Path.{refl, ap}
 use mathlib.Core.Logic.{inl, inr, ⊎-elim}
 use native.Mathlib.Omega.{arith}

@@ -15,10 +15,10 @@ use Rattle.forest.proofs.listed_child.Statement.{statement}
 use Rattle.forest.proofs.listed_child.Tie as tie
 
 abbrev Inv-loop : tie.InvT-loop
-Inv-loop file places n half first p len text at w₀ left₀ w left = (left ≤ n) × ((left ≡ 0 → n ≡ 0) × Search (row file places n) n half p len (drop at text) w left)
+Inv-loop file places n area first p len text at w₀ left₀ w left = (left ≤ n) × ((left ≡ 0 → n ≡ 0) × Search (row file places n) n area p len (drop at text) w left)
 
 abbrev μ-loop : tie.MeasureT-loop
-μ-loop file places n half first p len text at w₀ left₀ w left = left
+μ-loop file places n area first p len text at w₀ left₀ w left = left
 
 -- steps are left where there is a row
 some : (left n i : ℕ) → (left ≡ 0 → n ≡ 0) → i < n → 0 < left
@@ -73,7 +73,7 @@ returns-2 c =
 -- the word behind one that does not fit
 behind : (c : tie.Else2 Inv-loop μ-loop)
     → let a = c .before .before .before .before .before .before .before .before .before .args in let l = c .before .before .before .before .loop in let i = c .before .before .before .row-of .result in
-    Search (row (a .file .now) (a .places .now) (a .n)) (a .n) (a .half .now) (a .p) (a .len) (drop (a .at) (a .text .now)) (getD (a .half .now) (8448 + i) 0) (l .left - 1)
+    Search (row (a .file .now) (a .places .now) (a .n)) (a .n) (a .area .now) (a .p) (a .len) (drop (a .at) (a .text .now)) (getD (a .area .now) (8448 + i) 0) (l .left - 1)
 behind c =
     let l = c .before .before .before .before .loop in
     let i = c .before .before .before .row-of in

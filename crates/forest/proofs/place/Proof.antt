@@ -21,7 +21,7 @@ returns c =
     let s = c .before .before .before .before in
     let a = s .args in
     let f = c .before .row-of .ensures .is in
-    record { is = sym (place-out (a .half .now) (a .n) (a .h) (omega (arith, f, c .if1 .taken))); below = omega (arith, s .pre .1 .0) }
+    record { is = sym (place-out (a .area .now) (a .n) (a .h) (omega (arith, f, c .if1 .taken))); below = omega (arith, s .pre .1 .0) }
 
 add-result : tie.Need-add-result
 add-result c = search needs
@@ -32,7 +32,7 @@ returns-2 c =
     let a = s .args in
     let f = c .before .row-of .ensures .is in
     record {
-      is = ap (λ (i : ℕ). 8448 + i) f ∙ sym (place-in (a .half .now) (a .n) (a .h) (omega (arith, f, c .if1 .left)));
+      is = ap (λ (i : ℕ). 8448 + i) f ∙ sym (place-in (a .area .now) (a .n) (a .h) (omega (arith, f, c .if1 .left)));
       below = omega (arith, s .pre .0, c .if1 .left);
     }
 

@@ -29,7 +29,7 @@ shared-slice-read-bucket-child c = search needs
 bucket-child-requires : tie.Need-bucket-child-requires
 bucket-child-requires c κs =
     let s = c .before .before .before .before .before .before .before .before in
-    (s .pre .0, ((s .pre .1 .0, (omega (arith, c .before .before .before .if1 .left), ap (λ (i : ℕ). getD (s .args .half .now) i 0) (c .before .root-bucket .ensures .is))), omega (arith, s .good .1 .1 .1 .1 .0 .0)))
+    (s .pre .0, ((s .pre .1 .0, (omega (arith, c .before .before .before .if1 .left), ap (λ (i : ℕ). getD (s .args .area .now) i 0) (c .before .root-bucket .ensures .is))), omega (arith, s .good .1 .1 .1 .1 .0 .0)))
 
 returns-2 : tie.Need-returns-2
 returns-2 c = c .bucket-child .ensures

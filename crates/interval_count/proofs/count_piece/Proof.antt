@@ -8,11 +8,11 @@ use Rattle.interval_count.proofs.count_piece.Tie as tie
 use Rattle.tables.specs.Tables.{tables}
 
 abbrev Inv-loop : tie.InvT-loop
-Inv-loop file places lefts rights prefixes area n piece last-codes numbers ends depths from to work₀ dead₀ encoder₀ left₀ work dead encoder left =
-    Counting (tables file places lefts rights prefixes area) n piece last-codes numbers ends depths from to work₀ left encoder work dead
+Inv-loop file places lefts rights prefixes area n piece last-codes numbers ends depths from to work₀ alive₀ encoder₀ left₀ work alive encoder left =
+    Counting (tables file places lefts rights prefixes area) n piece last-codes numbers ends depths from to work₀ left encoder work alive
 
 abbrev μ-loop : tie.MeasureT-loop
-μ-loop file places lefts rights prefixes area n piece last-codes numbers ends depths from to work₀ dead₀ encoder₀ left₀ work dead encoder left =
+μ-loop file places lefts rights prefixes area n piece last-codes numbers ends depths from to work₀ alive₀ encoder₀ left₀ work alive encoder left =
     left
 
 all-set-requires : tie.Need-all-set-requires Inv-loop μ-loop

@@ -1,6 +1,6 @@
 -- A hint's number has changed, and no other. Assumes nothing.
 use native.Mathlib.Omega.{arith}
-use Rattle.token_pair.proofs.Keys.{hint-below}
+use Rattle.pair_check.proofs.Keys.{hint-below}
 use Rattle.parts.proofs.Marking.{named-set}
 use borrow.Author.Needs.{needs}
 use Rattle.parts.proofs.name_row.Statement.{statement}

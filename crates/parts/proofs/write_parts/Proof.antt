@@ -1,6 +1,6 @@
 -- Rests on what naming a row and marking a pair leave. Assumes nothing.
 use native.Mathlib.Omega.{arith}
-use Rattle.token_pair.proofs.Keys.{key-inside}
+use Rattle.pair_check.proofs.Keys.{key-inside}
 use Rattle.parts.proofs.Marking.{written-single, written-marked}
 use borrow.Author.Needs.{needs}
 use Rattle.parts.proofs.write_parts.Statement.{statement}

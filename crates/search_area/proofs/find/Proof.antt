@@ -1,4 +1,4 @@
--- Rests on the descent in the front half: where it uses all bytes, the longest row is the row with these bytes. Assumes nothing.
+-- Rests on the descent in the rows' part: where it uses all bytes, the longest row is the row with these bytes. Assumes nothing.
 use borrow.Author.Needs.{needs}
 use Rattle.search_area.proofs.Looking.{find-hit, find-miss}
 use Rattle.search_area.proofs.find.Statement.{statement}

@@ -1,4 +1,4 @@
--- Rests on the descent from row x in the front half along the bytes of row y. Assumes nothing.
+-- Rests on the descent from row x in the rows' part along the bytes of row y. Assumes nothing.
 use mathlib.Core.Path.{ap, _∙_}
 use Prim.Native.Nat.{ℕ}
 use native.Mathlib.Omega.{arith}

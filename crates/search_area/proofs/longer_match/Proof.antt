@@ -1,4 +1,4 @@
--- Rests on the child in the front half. Assumes nothing.
+-- Rests on the child in the rows' part. Assumes nothing.
 use mathlib.Core.Path.{sym}
 use native.Mathlib.Omega.{arith}
 use lib.ListN.{length-drop, drop}

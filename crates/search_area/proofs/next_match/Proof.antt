@@ -1,4 +1,4 @@
--- Rests on the descent in the front half. Assumes nothing.
+-- Rests on the descent in the rows' part. Assumes nothing.
 use borrow.Author.Needs.{needs}
 use Rattle.search_area.proofs.Looking.{next-match}
 use Rattle.search_area.proofs.next_match.Statement.{statement}

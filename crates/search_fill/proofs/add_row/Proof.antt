@@ -1,8 +1,8 @@
--- Rests on `insert` for the front half. Assumes nothing.
+-- Rests on `insert` for the rows' part. Assumes nothing.
 use mathlib.Core.Path.{sym}
 use native.Mathlib.Omega.{arith}
 use borrow.Author.Needs.{needs}
-use Rattle.search_area.proofs.Halves.{front-length}
+use Rattle.search_area.proofs.RowsPart.{front-length}
 use Rattle.search_fill.proofs.Parting.{row-inserted}
 use Rattle.search_fill.proofs.add_row.Statement.{statement}
 use Rattle.search_fill.proofs.add_row.Tie as tie

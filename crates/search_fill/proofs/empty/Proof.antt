@@ -1,8 +1,8 @@
--- Rests on `clear` for the front half. Assumes nothing.
+-- Rests on `clear` for the rows' part. Assumes nothing.
 use mathlib.Core.Path.{sym}
 use native.Mathlib.Omega.{arith}
 use borrow.Author.Needs.{needs}
-use Rattle.search_area.proofs.Halves.{front-length}
+use Rattle.search_area.proofs.RowsPart.{front-length}
 use Rattle.search_fill.proofs.Parting.{emptied-is}
 use Rattle.search_fill.proofs.empty.Statement.{statement}
 use Rattle.search_fill.proofs.empty.Tie as tie

@@ -7,8 +7,8 @@ use Prim.Native.Nat.{_-_, _<_}
 use native.Mathlib.Omega.{arith}
 use lib.ListN.{length}
 use Rattle.theory.specs.Dictionary.{Octets}
-use Rattle.built.proofs.Rows.{octets}
-use Rattle.typing_core.specs.Sides.{sideOf}
+use Rattle.built_tables.proofs.Rows.{octets}
+use Rattle.typing_columns.specs.Sides.{sideOf}
 use Rattle.typing.proofs.Texting.{Typing, begins, ends-all, ends-full, more}
 use borrow.Author.Needs.{needs}
 use Rattle.typing.proofs.type_text.Statement.{statement}

@@ -3,8 +3,8 @@ use Rattle.typing.proofs.StateKit
 use Rattle.typing.proofs.HeadKit
 use Rattle.causes.proofs.Answer
 use Rattle.causes.proofs.Answer.Laws
-use Rattle.typing_core.proofs.Side
-use Rattle.typing_core.proofs.Side.Laws as Laws'
+use Rattle.typing_columns.proofs.Side
+use Rattle.typing_columns.proofs.Side.Laws as Laws'
 use borrow.Fn.Kinds
 use borrow.Kind.ShrSlice
 use borrow.Kind.Value

@@ -4,8 +4,8 @@ use Rattle.typing.proofs.HeadKit
 use Prim.Native.Nat
 use Rattle.causes.proofs.Answer
 use Rattle.causes.proofs.Answer.Laws
-use Rattle.typing_core.proofs.Side
-use Rattle.typing_core.proofs.Side.Laws as Laws'
+use Rattle.typing_columns.proofs.Side
+use Rattle.typing_columns.proofs.Side.Laws as Laws'
 use borrow.Author.Called
 use borrow.Fn.Any
 use borrow.Fn.Call
@@ -225,7 +225,7 @@ abbrev b15 : Syntax.Body
 b15 = Syntax.assign (Syntax.place 28 List.[]) (Syntax.addrOf (Syntax.place 16 List.[]))
 
 abbrev b16 : Syntax.Body
-b16 = Syntax.call "typing_core::extend_columns" (List._∷_ (Syntax.copy (Syntax.place 1 List.[])) (List._∷_ (Syntax.copy (Syntax.place 2 List.[])) (List._∷_ (Syntax.copy (Syntax.place 3 List.[])) (List._∷_ (Syntax.copy (Syntax.place 4 List.[])) (List._∷_ (Syntax.copy (Syntax.place 5 List.[])) (List._∷_ (Syntax.copy (Syntax.place 6 List.[])) (List._∷_ (Syntax.copy (Syntax.place 7 List.[])) (List._∷_ (Syntax.copy (Syntax.place 12 List.[])) (List._∷_ (Syntax.copy (Syntax.place 13 List.[])) (List._∷_ (Syntax.copy (Syntax.place 26 List.[])) (List._∷_ (Syntax.copy (Syntax.place 27 List.[])) (List._∷_ (Syntax.copy (Syntax.place 28 List.[])) (List._∷_ (Syntax.copy (Syntax.place 10 List.[])) List.[]))))))))))))) (Syntax.place 17 List.[])
+b16 = Syntax.call "typing_columns::extend_columns" (List._∷_ (Syntax.copy (Syntax.place 1 List.[])) (List._∷_ (Syntax.copy (Syntax.place 2 List.[])) (List._∷_ (Syntax.copy (Syntax.place 3 List.[])) (List._∷_ (Syntax.copy (Syntax.place 4 List.[])) (List._∷_ (Syntax.copy (Syntax.place 5 List.[])) (List._∷_ (Syntax.copy (Syntax.place 6 List.[])) (List._∷_ (Syntax.copy (Syntax.place 7 List.[])) (List._∷_ (Syntax.copy (Syntax.place 12 List.[])) (List._∷_ (Syntax.copy (Syntax.place 13 List.[])) (List._∷_ (Syntax.copy (Syntax.place 26 List.[])) (List._∷_ (Syntax.copy (Syntax.place 27 List.[])) (List._∷_ (Syntax.copy (Syntax.place 28 List.[])) (List._∷_ (Syntax.copy (Syntax.place 10 List.[])) List.[]))))))))))))) (Syntax.place 17 List.[])
 
 abbrev b17 : Syntax.Body
 b17 = Syntax.call "typing::end_after" (List._∷_ (Syntax.copy (Syntax.place 17 List.[])) (List._∷_ (Syntax.copy (Syntax.place 12 List.[])) List.[])) (Syntax.place 18 List.[])
@@ -954,7 +954,7 @@ module _ (claims· : Claims) where
   module _ (Pre· : (κs : Lifetimes.Lfts 9) → Kinds.Dens κs ps → Type 0) (Post· : (κs : Lifetimes.Lfts 9) → (a : Kinds.Dens κs ps) → Kinds.Plain 9 ps r κs) where
     module _ (M : Type 1) where
       abbrev pub Closed : Type 2
-      Closed = (𝓤 : URA.URA M) (H : Wp.Heap 𝓤) (A : Atoms.Atoms 𝓤) (W : Kit.Given 𝓤 H A) (𝓣 : Wp.Tables 𝓤 H) (known0 : Plain.Known 𝓤 H A W 𝓣 0 ps·0 r·0 (claims· .0) (claims· .1) "typing::length_of_head") (known1 : Plain.Known 𝓤 H A W 𝓣 0 ps·1 r·1 (claims· .2) (claims· .3) "typing::usable") (known2 : Plain.Known 𝓤 H A W 𝓣 4 ps·2 r·2 (claims· .4) (claims· .5) "typing::copy_out") (known3 : Plain.Known 𝓤 H A W 𝓣 10 ps·3 r·3 (claims· .6) (claims· .7) "typing_core::extend_columns") (known4 : Plain.Known 𝓤 H A W 𝓣 0 ps·4 r·4 (claims· .8) (claims· .9) "typing::end_after") (known5 : Plain.Known 𝓤 H A W 𝓣 4 ps·5 r·5 (claims· .10) (claims· .11) "typing::store_all") (known6 : Plain.Known 𝓤 H A W 𝓣 0 ps·6 r·6 (claims· .12) (claims· .13) "typing::head_with") → Statement.Triple 𝓤 (Wp.WpFn 𝓤 H (𝓣 .C) (𝓣 .Λ) (Function.fnOf 9 ps r xs m hs body)) (Function.plainOf 𝓤 H A 9 ps r Pre· Post·)
+      Closed = (𝓤 : URA.URA M) (H : Wp.Heap 𝓤) (A : Atoms.Atoms 𝓤) (W : Kit.Given 𝓤 H A) (𝓣 : Wp.Tables 𝓤 H) (known0 : Plain.Known 𝓤 H A W 𝓣 0 ps·0 r·0 (claims· .0) (claims· .1) "typing::length_of_head") (known1 : Plain.Known 𝓤 H A W 𝓣 0 ps·1 r·1 (claims· .2) (claims· .3) "typing::usable") (known2 : Plain.Known 𝓤 H A W 𝓣 4 ps·2 r·2 (claims· .4) (claims· .5) "typing::copy_out") (known3 : Plain.Known 𝓤 H A W 𝓣 10 ps·3 r·3 (claims· .6) (claims· .7) "typing_columns::extend_columns") (known4 : Plain.Known 𝓤 H A W 𝓣 0 ps·4 r·4 (claims· .8) (claims· .9) "typing::end_after") (known5 : Plain.Known 𝓤 H A W 𝓣 4 ps·5 r·5 (claims· .10) (claims· .11) "typing::store_all") (known6 : Plain.Known 𝓤 H A W 𝓣 0 ps·6 r·6 (claims· .12) (claims· .13) "typing::head_with") → Statement.Triple 𝓤 (Wp.WpFn 𝓤 H (𝓣 .C) (𝓣 .Λ) (Function.fnOf 9 ps r xs m hs body)) (Function.plainOf 𝓤 H A 9 ps r Pre· Post·)
 
     module _ where
       abbrev at0 : Typed.TF T99 O0
@@ -1259,7 +1259,7 @@ module _ (claims· : Claims) where
 
       module _ {M : Type 1} (𝓤 : URA.URA M) (H : Wp.Heap 𝓤) (A : Atoms.Atoms 𝓤) (W : Kit.Given 𝓤 H A) (𝓣 : Wp.Tables 𝓤 H) where
         abbrev Knowns : Type 1
-        Knowns = Plain.Known 𝓤 H A W 𝓣 0 ps·0 r·0 (claims· .0) (claims· .1) "typing::length_of_head" × Plain.Known 𝓤 H A W 𝓣 0 ps·1 r·1 (claims· .2) (claims· .3) "typing::usable" × Plain.Known 𝓤 H A W 𝓣 4 ps·2 r·2 (claims· .4) (claims· .5) "typing::copy_out" × Plain.Known 𝓤 H A W 𝓣 10 ps·3 r·3 (claims· .6) (claims· .7) "typing_core::extend_columns" × Plain.Known 𝓤 H A W 𝓣 0 ps·4 r·4 (claims· .8) (claims· .9) "typing::end_after" × Plain.Known 𝓤 H A W 𝓣 4 ps·5 r·5 (claims· .10) (claims· .11) "typing::store_all" × Plain.Known 𝓤 H A W 𝓣 0 ps·6 r·6 (claims· .12) (claims· .13) "typing::head_with"
+        Knowns = Plain.Known 𝓤 H A W 𝓣 0 ps·0 r·0 (claims· .0) (claims· .1) "typing::length_of_head" × Plain.Known 𝓤 H A W 𝓣 0 ps·1 r·1 (claims· .2) (claims· .3) "typing::usable" × Plain.Known 𝓤 H A W 𝓣 4 ps·2 r·2 (claims· .4) (claims· .5) "typing::copy_out" × Plain.Known 𝓤 H A W 𝓣 10 ps·3 r·3 (claims· .6) (claims· .7) "typing_columns::extend_columns" × Plain.Known 𝓤 H A W 𝓣 0 ps·4 r·4 (claims· .8) (claims· .9) "typing::end_after" × Plain.Known 𝓤 H A W 𝓣 4 ps·5 r·5 (claims· .10) (claims· .11) "typing::store_all" × Plain.Known 𝓤 H A W 𝓣 0 ps·6 r·6 (claims· .12) (claims· .13) "typing::head_with"
 
       module _ (κs : Lifetimes.Lfts 9) (qs : Lifetimes.Shares 9) where
         abbrev g14 : List.List Row.Entry
@@ -1735,7 +1735,7 @@ module _ (claims· : Claims) where
           d48 = Typed.g-pre 𝓤 H A W 𝓣 E G51 G52 b37 Δ0 (Typed.pass T51 T52 s50) at47 (Scalar.g-room 𝓤 H A W E G51 1 τ1 (Local.room-whole 𝓤 H A W (Declared.row Side.the-type) τ1 Path'.refl)) d47
 
           d49 : Typed.Typed 𝓤 H A 𝓣 E G50 b38 Δ0 at49
-          d49 = Typed.s-seq 𝓤 H A W 𝓣 E G50 G51 b16 b37 Δ0 (Typed.both s49) at48 (Plain.t-call-plain 𝓤 H A W 𝓣 10 ps·3 r·3 (claims· .6) (claims· .7) "typing_core::extend_columns" (known .3) E (λ pos β. β) G50 (record { pos = 1; st = List.[]; d = 0; at = λ x. x }, (record { pos = 2; ty = τ13; ref = λ x. x }, (record { pos = 3; ty = τ8; ref = λ x. x }, (record { pos = 4; ty = τ9; ref = λ x. x }, (record { pos = 5; ty = τ10; ref = λ x. x }, (record { pos = 6; ty = τ11; ref = λ x. x }, (record { pos = 7; ty = τ12; ref = λ x. x }, (Num.vAt 12 λ x. x, (Num.vAt 13 λ x. x, (record { pos = 26; ty = τ6; ref = λ x. x }, (record { pos = 27; ty = τ4; ref = λ x. x }, (record { pos = 28; ty = τ4; ref = λ x. x }, (record { pos = 10; ty = τ14; ref = λ x. x }, tt))))))))))))) 17 (List._∷_ 0 (List._∷_ 1 (List._∷_ 2 (List._∷_ 3 (List._∷_ 4 (List._∷_ 5 (List._∷_ 13 (List._∷_ 14 (List._∷_ 15 (List._∷_ 8 List.[])))))))))) (Call.sub-id 𝓤 H A W (G50 .slots)) ((Yields.yields-copy 𝓤 H A W (λ ρ. Unit) (Declared.row Side.the-type) Path'.refl (Copies.cEnum Side.the-type Laws'.the-laws Laws'.the-copy .copy 𝓤 H A W) (Rows'.whole (Declared.row Side.the-type)) (λ x. x) (λ x. x) (λ ρ told. Local.mem-whole 𝓤 H A W (Declared.row Side.the-type) ρ) λ ρ told. Local.whole-mem 𝓤 H A W (Declared.row Side.the-type) ρ, Path'.refl), (ShrSlice.spares-sslice 𝓤 H A W (Referent.rtF (Referent.fInt Syntax.w8)) τ13 0, Shared.reads-sslice 𝓤 H A W (Referent.rtF (Referent.fInt Syntax.w8)) τ13 0, Path'.refl, (ShrSlice.spares-sslice 𝓤 H A W (Referent.rtF (Referent.fInt Syntax.w32)) τ8 1, Shared.reads-sslice 𝓤 H A W (Referent.rtF (Referent.fInt Syntax.w32)) τ8 1, Path'.refl, (ShrSlice.spares-sslice 𝓤 H A W (Referent.rtF (Referent.fInt Syntax.w32)) τ9 2, Shared.reads-sslice 𝓤 H A W (Referent.rtF (Referent.fInt Syntax.w32)) τ9 2, Path'.refl, (ShrSlice.spares-sslice 𝓤 H A W (Referent.rtF (Referent.fInt Syntax.w32)) τ10 3, Shared.reads-sslice 𝓤 H A W (Referent.rtF (Referent.fInt Syntax.w32)) τ10 3, Path'.refl, (ShrSlice.spares-sslice 𝓤 H A W (Referent.rtF (Referent.fInt Syntax.w32)) τ11 4, Shared.reads-sslice 𝓤 H A W (Referent.rtF (Referent.fInt Syntax.w32)) τ11 4, Path'.refl, (ShrSlice.spares-sslice 𝓤 H A W (Referent.rtF (Referent.fInt Syntax.w32)) τ12 5, Shared.reads-sslice 𝓤 H A W (Referent.rtF (Referent.fInt Syntax.w32)) τ12 5, Path'.refl, ((Scalar.reads-sc 𝓤 H A W (Row.sInt Syntax.w64), Path'.refl), ((Scalar.reads-sc 𝓤 H A W (Row.sInt Syntax.w64), Path'.refl), (Reads.as-is 𝓤 H A (Rows'.mref (Array'.Array (Referent.rtF (Referent.fInt Syntax.w8)) 4096) τ6 13), Reads.reads-mref 𝓤 H A W (Array'.Array (Referent.rtF (Referent.fInt Syntax.w8)) 4096) τ6 13, Path'.refl, (Reads.as-is 𝓤 H A (Rows'.mref (Array'.Array (Referent.rtF (Referent.fInt Syntax.w32)) 4096) τ4 14), Reads.reads-mref 𝓤 H A W (Array'.Array (Referent.rtF (Referent.fInt Syntax.w32)) 4096) τ4 14, Path'.refl, (Reads.as-is 𝓤 H A (Rows'.mref (Array'.Array (Referent.rtF (Referent.fInt Syntax.w32)) 4096) τ4 15), Reads.reads-mref 𝓤 H A W (Array'.Array (Referent.rtF (Referent.fInt Syntax.w32)) 4096) τ4 15, Path'.refl, (ShrSlice.spares-sslice 𝓤 H A W (Referent.rtF (Referent.fInt Syntax.w8)) τ14 8, Shared.reads-sslice 𝓤 H A W (Referent.rtF (Referent.fInt Syntax.w8)) τ14 8, Path'.refl, tt))))))))))))) (Reads.room-gone 𝓤 H A τ0) (tt, (tt, (tt, (tt, (tt, (tt, (tt, (tt, (tt, (tt, tt)))))))))) Path'.refl) d48
+          d49 = Typed.s-seq 𝓤 H A W 𝓣 E G50 G51 b16 b37 Δ0 (Typed.both s49) at48 (Plain.t-call-plain 𝓤 H A W 𝓣 10 ps·3 r·3 (claims· .6) (claims· .7) "typing_columns::extend_columns" (known .3) E (λ pos β. β) G50 (record { pos = 1; st = List.[]; d = 0; at = λ x. x }, (record { pos = 2; ty = τ13; ref = λ x. x }, (record { pos = 3; ty = τ8; ref = λ x. x }, (record { pos = 4; ty = τ9; ref = λ x. x }, (record { pos = 5; ty = τ10; ref = λ x. x }, (record { pos = 6; ty = τ11; ref = λ x. x }, (record { pos = 7; ty = τ12; ref = λ x. x }, (Num.vAt 12 λ x. x, (Num.vAt 13 λ x. x, (record { pos = 26; ty = τ6; ref = λ x. x }, (record { pos = 27; ty = τ4; ref = λ x. x }, (record { pos = 28; ty = τ4; ref = λ x. x }, (record { pos = 10; ty = τ14; ref = λ x. x }, tt))))))))))))) 17 (List._∷_ 0 (List._∷_ 1 (List._∷_ 2 (List._∷_ 3 (List._∷_ 4 (List._∷_ 5 (List._∷_ 13 (List._∷_ 14 (List._∷_ 15 (List._∷_ 8 List.[])))))))))) (Call.sub-id 𝓤 H A W (G50 .slots)) ((Yields.yields-copy 𝓤 H A W (λ ρ. Unit) (Declared.row Side.the-type) Path'.refl (Copies.cEnum Side.the-type Laws'.the-laws Laws'.the-copy .copy 𝓤 H A W) (Rows'.whole (Declared.row Side.the-type)) (λ x. x) (λ x. x) (λ ρ told. Local.mem-whole 𝓤 H A W (Declared.row Side.the-type) ρ) λ ρ told. Local.whole-mem 𝓤 H A W (Declared.row Side.the-type) ρ, Path'.refl), (ShrSlice.spares-sslice 𝓤 H A W (Referent.rtF (Referent.fInt Syntax.w8)) τ13 0, Shared.reads-sslice 𝓤 H A W (Referent.rtF (Referent.fInt Syntax.w8)) τ13 0, Path'.refl, (ShrSlice.spares-sslice 𝓤 H A W (Referent.rtF (Referent.fInt Syntax.w32)) τ8 1, Shared.reads-sslice 𝓤 H A W (Referent.rtF (Referent.fInt Syntax.w32)) τ8 1, Path'.refl, (ShrSlice.spares-sslice 𝓤 H A W (Referent.rtF (Referent.fInt Syntax.w32)) τ9 2, Shared.reads-sslice 𝓤 H A W (Referent.rtF (Referent.fInt Syntax.w32)) τ9 2, Path'.refl, (ShrSlice.spares-sslice 𝓤 H A W (Referent.rtF (Referent.fInt Syntax.w32)) τ10 3, Shared.reads-sslice 𝓤 H A W (Referent.rtF (Referent.fInt Syntax.w32)) τ10 3, Path'.refl, (ShrSlice.spares-sslice 𝓤 H A W (Referent.rtF (Referent.fInt Syntax.w32)) τ11 4, Shared.reads-sslice 𝓤 H A W (Referent.rtF (Referent.fInt Syntax.w32)) τ11 4, Path'.refl, (ShrSlice.spares-sslice 𝓤 H A W (Referent.rtF (Referent.fInt Syntax.w32)) τ12 5, Shared.reads-sslice 𝓤 H A W (Referent.rtF (Referent.fInt Syntax.w32)) τ12 5, Path'.refl, ((Scalar.reads-sc 𝓤 H A W (Row.sInt Syntax.w64), Path'.refl), ((Scalar.reads-sc 𝓤 H A W (Row.sInt Syntax.w64), Path'.refl), (Reads.as-is 𝓤 H A (Rows'.mref (Array'.Array (Referent.rtF (Referent.fInt Syntax.w8)) 4096) τ6 13), Reads.reads-mref 𝓤 H A W (Array'.Array (Referent.rtF (Referent.fInt Syntax.w8)) 4096) τ6 13, Path'.refl, (Reads.as-is 𝓤 H A (Rows'.mref (Array'.Array (Referent.rtF (Referent.fInt Syntax.w32)) 4096) τ4 14), Reads.reads-mref 𝓤 H A W (Array'.Array (Referent.rtF (Referent.fInt Syntax.w32)) 4096) τ4 14, Path'.refl, (Reads.as-is 𝓤 H A (Rows'.mref (Array'.Array (Referent.rtF (Referent.fInt Syntax.w32)) 4096) τ4 15), Reads.reads-mref 𝓤 H A W (Array'.Array (Referent.rtF (Referent.fInt Syntax.w32)) 4096) τ4 15, Path'.refl, (ShrSlice.spares-sslice 𝓤 H A W (Referent.rtF (Referent.fInt Syntax.w8)) τ14 8, Shared.reads-sslice 𝓤 H A W (Referent.rtF (Referent.fInt Syntax.w8)) τ14 8, Path'.refl, tt))))))))))))) (Reads.room-gone 𝓤 H A τ0) (tt, (tt, (tt, (tt, (tt, (tt, (tt, (tt, (tt, (tt, tt)))))))))) Path'.refl) d48
 
           d50 : Typed.Typed 𝓤 H A 𝓣 E G49 b39 Δ0 at50
           d50 = Typed.s-seq 𝓤 H A W 𝓣 E G49 G50 b15 b38 Δ0 (Typed.give s48) at49 (Local.t-sc-borrow 𝓤 H A W E 𝓣 G49 16 28 15 (Array'.Array (Referent.rtF (Referent.fInt Syntax.w32)) 4096) τ4 (λ x. x) (Whole.mem-arr 𝓤 H A W (Referent.rtF (Referent.fInt Syntax.w32)) 4096) (Reads.room-gone 𝓤 H A τ4) Path'.refl λ b o. tt) d49
@@ -2403,6 +2403,6 @@ module _ (claims· : Claims) where
           pub asked : (a : Kinds.Dens κs ps) → (good : Kinds.GoodsP κs ps a) → (pre : Pre· κs a) → (bs : List.List Nat.ℕ) → Φ (Any.wantQ 9 ps r xs m κs qs a (Post· κs a)) (Function.init 9 ps r xs m κs qs a)
           asked = λ a good pre bs. laid record { κs = κs; args = record { side = a .0; file = a .1 .0; places = a .1 .1 .0; lefts = a .1 .1 .1 .0; rights = a .1 .1 .1 .1 .0; prefixes = a .1 .1 .1 .1 .1 .0; area = a .1 .1 .1 .1 .1 .1 .0; head = a .1 .1 .1 .1 .1 .1 .1 .0; states = a .1 .1 .1 .1 .1 .1 .1 .1 .0; typed = a .1 .1 .1 .1 .1 .1 .1 .1 .1 .0 }; good = good; pre = pre }
 
-        module _ {M : Type 1} (𝓤 : URA.URA M) (H : Wp.Heap 𝓤) (A : Atoms.Atoms 𝓤) (W : Kit.Given 𝓤 H A) (𝓣 : Wp.Tables 𝓤 H) (known0 : Plain.Known 𝓤 H A W 𝓣 0 ps·0 r·0 (claims· .0) (claims· .1) "typing::length_of_head") (known1 : Plain.Known 𝓤 H A W 𝓣 0 ps·1 r·1 (claims· .2) (claims· .3) "typing::usable") (known2 : Plain.Known 𝓤 H A W 𝓣 4 ps·2 r·2 (claims· .4) (claims· .5) "typing::copy_out") (known3 : Plain.Known 𝓤 H A W 𝓣 10 ps·3 r·3 (claims· .6) (claims· .7) "typing_core::extend_columns") (known4 : Plain.Known 𝓤 H A W 𝓣 0 ps·4 r·4 (claims· .8) (claims· .9) "typing::end_after") (known5 : Plain.Known 𝓤 H A W 𝓣 4 ps·5 r·5 (claims· .10) (claims· .11) "typing::store_all") (known6 : Plain.Known 𝓤 H A W 𝓣 0 ps·6 r·6 (claims· .12) (claims· .13) "typing::head_with") where
+        module _ {M : Type 1} (𝓤 : URA.URA M) (H : Wp.Heap 𝓤) (A : Atoms.Atoms 𝓤) (W : Kit.Given 𝓤 H A) (𝓣 : Wp.Tables 𝓤 H) (known0 : Plain.Known 𝓤 H A W 𝓣 0 ps·0 r·0 (claims· .0) (claims· .1) "typing::length_of_head") (known1 : Plain.Known 𝓤 H A W 𝓣 0 ps·1 r·1 (claims· .2) (claims· .3) "typing::usable") (known2 : Plain.Known 𝓤 H A W 𝓣 4 ps·2 r·2 (claims· .4) (claims· .5) "typing::copy_out") (known3 : Plain.Known 𝓤 H A W 𝓣 10 ps·3 r·3 (claims· .6) (claims· .7) "typing_columns::extend_columns") (known4 : Plain.Known 𝓤 H A W 𝓣 0 ps·4 r·4 (claims· .8) (claims· .9) "typing::end_after") (known5 : Plain.Known 𝓤 H A W 𝓣 4 ps·5 r·5 (claims· .10) (claims· .11) "typing::store_all") (known6 : Plain.Known 𝓤 H A W 𝓣 0 ps·6 r·6 (claims· .12) (claims· .13) "typing::head_with") where
           pub spec : Statement.Triple 𝓤 (Wp.WpFn 𝓤 H (𝓣 .C) (𝓣 .Λ) (Function.fnOf 9 ps r xs m hs body)) (Function.plainOf 𝓤 H A 9 ps r Pre· Post·)
           spec = Plain.t-fn-plain 𝓤 H A W 𝓣 9 ps r xs m hs body (λ κs qs bs. Φ) (λ κs qs bs bd. typed κs qs 𝓤 H A W 𝓣 (known0, known1, known2, known3, known4, known5, known6) bs bd) Pre· Post· asked

@@ -1,7 +1,7 @@
 -- Made by tools/carry: the borrow checker's `Tie` of the twin of `extend`, carried over to the structs. Assumes nothing.
-use Rattle.typing_core.proofs.extend_columns.Met
-use Rattle.typing_core.proofs.extend_columns.Reads
-use Rattle.typing_core.proofs.extend_columns.Symbol
+use Rattle.typing_columns.proofs.extend_columns.Met
+use Rattle.typing_columns.proofs.extend_columns.Reads
+use Rattle.typing_columns.proofs.extend_columns.Symbol
 use Rattle.typing.proofs.copy_out.Met as Met'
 use Rattle.typing.proofs.Carried.copy_out.Reads as Reads'
 use Rattle.typing.proofs.copy_out.Symbol as Symbol'

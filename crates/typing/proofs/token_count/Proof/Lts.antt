@@ -4,8 +4,8 @@ use Rattle.typing.proofs.HeadKit
 use Prim.Native.Nat
 use Rattle.causes.proofs.Answer
 use Rattle.causes.proofs.Answer.Laws
-use Rattle.typing_core.proofs.Side
-use Rattle.typing_core.proofs.Side.Laws as Laws'
+use Rattle.typing_columns.proofs.Side
+use Rattle.typing_columns.proofs.Side.Laws as Laws'
 use borrow.Author.Called
 use borrow.Fn.Any
 use borrow.Fn.Call
@@ -181,7 +181,7 @@ abbrev b13 : Syntax.Body
 b13 = Syntax.assign (Syntax.place 23 List.[]) (Syntax.addrOf (Syntax.place 15 List.[]))
 
 abbrev b14 : Syntax.Body
-b14 = Syntax.call "typing_core::count_columns" (List._∷_ (Syntax.copy (Syntax.place 1 List.[])) (List._∷_ (Syntax.copy (Syntax.place 2 List.[])) (List._∷_ (Syntax.copy (Syntax.place 3 List.[])) (List._∷_ (Syntax.copy (Syntax.place 4 List.[])) (List._∷_ (Syntax.copy (Syntax.place 5 List.[])) (List._∷_ (Syntax.copy (Syntax.place 6 List.[])) (List._∷_ (Syntax.copy (Syntax.place 7 List.[])) (List._∷_ (Syntax.copy (Syntax.place 11 List.[])) (List._∷_ (Syntax.copy (Syntax.place 12 List.[])) (List._∷_ (Syntax.copy (Syntax.place 21 List.[])) (List._∷_ (Syntax.copy (Syntax.place 22 List.[])) (List._∷_ (Syntax.copy (Syntax.place 23 List.[])) List.[])))))))))))) (Syntax.place 0 List.[])
+b14 = Syntax.call "typing_columns::count_columns" (List._∷_ (Syntax.copy (Syntax.place 1 List.[])) (List._∷_ (Syntax.copy (Syntax.place 2 List.[])) (List._∷_ (Syntax.copy (Syntax.place 3 List.[])) (List._∷_ (Syntax.copy (Syntax.place 4 List.[])) (List._∷_ (Syntax.copy (Syntax.place 5 List.[])) (List._∷_ (Syntax.copy (Syntax.place 6 List.[])) (List._∷_ (Syntax.copy (Syntax.place 7 List.[])) (List._∷_ (Syntax.copy (Syntax.place 11 List.[])) (List._∷_ (Syntax.copy (Syntax.place 12 List.[])) (List._∷_ (Syntax.copy (Syntax.place 21 List.[])) (List._∷_ (Syntax.copy (Syntax.place 22 List.[])) (List._∷_ (Syntax.copy (Syntax.place 23 List.[])) List.[])))))))))))) (Syntax.place 0 List.[])
 
 abbrev b15 : Syntax.Body
 b15 = Syntax.return
@@ -634,7 +634,7 @@ module _ (claims· : Claims) where
   module _ (Pre· : (κs : Lifetimes.Lfts 8) → Kinds.Dens κs ps → Type 0) (Post· : (κs : Lifetimes.Lfts 8) → (a : Kinds.Dens κs ps) → Kinds.Plain 8 ps r κs) where
     module _ (M : Type 1) where
       abbrev pub Closed : Type 2
-      Closed = (𝓤 : URA.URA M) (H : Wp.Heap 𝓤) (A : Atoms.Atoms 𝓤) (W : Kit.Given 𝓤 H A) (𝓣 : Wp.Tables 𝓤 H) (known0 : Plain.Known 𝓤 H A W 𝓣 0 ps·0 r·0 (claims· .0) (claims· .1) "typing::length_of_head") (known1 : Plain.Known 𝓤 H A W 𝓣 0 ps·1 r·1 (claims· .2) (claims· .3) "typing::usable") (known2 : Plain.Known 𝓤 H A W 𝓣 4 ps·2 r·2 (claims· .4) (claims· .5) "typing::copy_out") (known3 : Plain.Known 𝓤 H A W 𝓣 9 ps·3 r·3 (claims· .6) (claims· .7) "typing_core::count_columns") → Statement.Triple 𝓤 (Wp.WpFn 𝓤 H (𝓣 .C) (𝓣 .Λ) (Function.fnOf 8 ps r xs m hs body)) (Function.plainOf 𝓤 H A 8 ps r Pre· Post·)
+      Closed = (𝓤 : URA.URA M) (H : Wp.Heap 𝓤) (A : Atoms.Atoms 𝓤) (W : Kit.Given 𝓤 H A) (𝓣 : Wp.Tables 𝓤 H) (known0 : Plain.Known 𝓤 H A W 𝓣 0 ps·0 r·0 (claims· .0) (claims· .1) "typing::length_of_head") (known1 : Plain.Known 𝓤 H A W 𝓣 0 ps·1 r·1 (claims· .2) (claims· .3) "typing::usable") (known2 : Plain.Known 𝓤 H A W 𝓣 4 ps·2 r·2 (claims· .4) (claims· .5) "typing::copy_out") (known3 : Plain.Known 𝓤 H A W 𝓣 9 ps·3 r·3 (claims· .6) (claims· .7) "typing_columns::count_columns") → Statement.Triple 𝓤 (Wp.WpFn 𝓤 H (𝓣 .C) (𝓣 .Λ) (Function.fnOf 8 ps r xs m hs body)) (Function.plainOf 𝓤 H A 8 ps r Pre· Post·)
 
     module _ where
       abbrev at0 : Typed.TF T61 O0
@@ -825,7 +825,7 @@ module _ (claims· : Claims) where
 
       module _ {M : Type 1} (𝓤 : URA.URA M) (H : Wp.Heap 𝓤) (A : Atoms.Atoms 𝓤) (W : Kit.Given 𝓤 H A) (𝓣 : Wp.Tables 𝓤 H) where
         abbrev Knowns : Type 1
-        Knowns = Plain.Known 𝓤 H A W 𝓣 0 ps·0 r·0 (claims· .0) (claims· .1) "typing::length_of_head" × Plain.Known 𝓤 H A W 𝓣 0 ps·1 r·1 (claims· .2) (claims· .3) "typing::usable" × Plain.Known 𝓤 H A W 𝓣 4 ps·2 r·2 (claims· .4) (claims· .5) "typing::copy_out" × Plain.Known 𝓤 H A W 𝓣 9 ps·3 r·3 (claims· .6) (claims· .7) "typing_core::count_columns"
+        Knowns = Plain.Known 𝓤 H A W 𝓣 0 ps·0 r·0 (claims· .0) (claims· .1) "typing::length_of_head" × Plain.Known 𝓤 H A W 𝓣 0 ps·1 r·1 (claims· .2) (claims· .3) "typing::usable" × Plain.Known 𝓤 H A W 𝓣 4 ps·2 r·2 (claims· .4) (claims· .5) "typing::copy_out" × Plain.Known 𝓤 H A W 𝓣 9 ps·3 r·3 (claims· .6) (claims· .7) "typing_columns::count_columns"
 
       module _ (κs : Lifetimes.Lfts 8) (qs : Lifetimes.Shares 8) where
         abbrev G0 : Row.Cx
@@ -1079,7 +1079,7 @@ module _ (claims· : Claims) where
           d18 = Typed.g-pre 𝓤 H A W 𝓣 E G43 G44 b15 Δ0 (Typed.pass T43 T44 s42) at17 (Local.g-drop-sref 𝓤 H A W E G43 21 11 (Array'.Array (Referent.rtF (Referent.fInt Syntax.w8)) 4096) τ5 (λ x. x) (Reads.as-is 𝓤 H A (Rows'.sref (Array'.Array (Referent.rtF (Referent.fInt Syntax.w8)) 4096) τ5 11))) d17
 
           d19 : Typed.Typed 𝓤 H A 𝓣 E G42 b16 Δ0 at19
-          d19 = Typed.s-seq 𝓤 H A W 𝓣 E G42 G43 b14 b15 Δ0 (Typed.both s41) at18 (Plain.t-call-plain 𝓤 H A W 𝓣 9 ps·3 r·3 (claims· .6) (claims· .7) "typing_core::count_columns" (known .3) E (λ pos β. β) G42 (record { pos = 1; st = List.[]; d = 0; at = λ x. x }, (record { pos = 2; ty = τ11; ref = λ x. x }, (record { pos = 3; ty = τ6; ref = λ x. x }, (record { pos = 4; ty = τ7; ref = λ x. x }, (record { pos = 5; ty = τ8; ref = λ x. x }, (record { pos = 6; ty = τ9; ref = λ x. x }, (record { pos = 7; ty = τ10; ref = λ x. x }, (Num.vAt 11 λ x. x, (Num.vAt 12 λ x. x, (record { pos = 21; ty = τ5; ref = λ x. x }, (record { pos = 22; ty = τ3; ref = λ x. x }, (record { pos = 23; ty = τ3; ref = λ x. x }, tt)))))))))))) 0 (List._∷_ 0 (List._∷_ 1 (List._∷_ 2 (List._∷_ 3 (List._∷_ 4 (List._∷_ 5 (List._∷_ 11 (List._∷_ 12 (List._∷_ 13 List.[]))))))))) (Call.sub-id 𝓤 H A W (G42 .slots)) ((Yields.yields-copy 𝓤 H A W (λ ρ. Unit) (Declared.row Side.the-type) Path'.refl (Copies.cEnum Side.the-type Laws'.the-laws Laws'.the-copy .copy 𝓤 H A W) (Rows'.whole (Declared.row Side.the-type)) (λ x. x) (λ x. x) (λ ρ told. Local.mem-whole 𝓤 H A W (Declared.row Side.the-type) ρ) λ ρ told. Local.whole-mem 𝓤 H A W (Declared.row Side.the-type) ρ, Path'.refl), (ShrSlice.spares-sslice 𝓤 H A W (Referent.rtF (Referent.fInt Syntax.w8)) τ11 0, Shared.reads-sslice 𝓤 H A W (Referent.rtF (Referent.fInt Syntax.w8)) τ11 0, Path'.refl, (ShrSlice.spares-sslice 𝓤 H A W (Referent.rtF (Referent.fInt Syntax.w32)) τ6 1, Shared.reads-sslice 𝓤 H A W (Referent.rtF (Referent.fInt Syntax.w32)) τ6 1, Path'.refl, (ShrSlice.spares-sslice 𝓤 H A W (Referent.rtF (Referent.fInt Syntax.w32)) τ7 2, Shared.reads-sslice 𝓤 H A W (Referent.rtF (Referent.fInt Syntax.w32)) τ7 2, Path'.refl, (ShrSlice.spares-sslice 𝓤 H A W (Referent.rtF (Referent.fInt Syntax.w32)) τ8 3, Shared.reads-sslice 𝓤 H A W (Referent.rtF (Referent.fInt Syntax.w32)) τ8 3, Path'.refl, (ShrSlice.spares-sslice 𝓤 H A W (Referent.rtF (Referent.fInt Syntax.w32)) τ9 4, Shared.reads-sslice 𝓤 H A W (Referent.rtF (Referent.fInt Syntax.w32)) τ9 4, Path'.refl, (ShrSlice.spares-sslice 𝓤 H A W (Referent.rtF (Referent.fInt Syntax.w32)) τ10 5, Shared.reads-sslice 𝓤 H A W (Referent.rtF (Referent.fInt Syntax.w32)) τ10 5, Path'.refl, ((Scalar.reads-sc 𝓤 H A W (Row.sInt Syntax.w64), Path'.refl), ((Scalar.reads-sc 𝓤 H A W (Row.sInt Syntax.w64), Path'.refl), (ShrRef.spares-sref 𝓤 H A W (Array'.Array (Referent.rtF (Referent.fInt Syntax.w8)) 4096) τ5 11, Reads.reads-sref 𝓤 H A W (Array'.Array (Referent.rtF (Referent.fInt Syntax.w8)) 4096) τ5 11, Path'.refl, (ShrRef.spares-sref 𝓤 H A W (Array'.Array (Referent.rtF (Referent.fInt Syntax.w32)) 4096) τ3 12, Reads.reads-sref 𝓤 H A W (Array'.Array (Referent.rtF (Referent.fInt Syntax.w32)) 4096) τ3 12, Path'.refl, (ShrRef.spares-sref 𝓤 H A W (Array'.Array (Referent.rtF (Referent.fInt Syntax.w32)) 4096) τ3 13, Reads.reads-sref 𝓤 H A W (Array'.Array (Referent.rtF (Referent.fInt Syntax.w32)) 4096) τ3 13, Path'.refl, tt)))))))))))) (Reads.room-gone 𝓤 H A τ0) (tt, (tt, (tt, (tt, (tt, (tt, (tt, (tt, (tt, tt))))))))) Path'.refl) d18
+          d19 = Typed.s-seq 𝓤 H A W 𝓣 E G42 G43 b14 b15 Δ0 (Typed.both s41) at18 (Plain.t-call-plain 𝓤 H A W 𝓣 9 ps·3 r·3 (claims· .6) (claims· .7) "typing_columns::count_columns" (known .3) E (λ pos β. β) G42 (record { pos = 1; st = List.[]; d = 0; at = λ x. x }, (record { pos = 2; ty = τ11; ref = λ x. x }, (record { pos = 3; ty = τ6; ref = λ x. x }, (record { pos = 4; ty = τ7; ref = λ x. x }, (record { pos = 5; ty = τ8; ref = λ x. x }, (record { pos = 6; ty = τ9; ref = λ x. x }, (record { pos = 7; ty = τ10; ref = λ x. x }, (Num.vAt 11 λ x. x, (Num.vAt 12 λ x. x, (record { pos = 21; ty = τ5; ref = λ x. x }, (record { pos = 22; ty = τ3; ref = λ x. x }, (record { pos = 23; ty = τ3; ref = λ x. x }, tt)))))))))))) 0 (List._∷_ 0 (List._∷_ 1 (List._∷_ 2 (List._∷_ 3 (List._∷_ 4 (List._∷_ 5 (List._∷_ 11 (List._∷_ 12 (List._∷_ 13 List.[]))))))))) (Call.sub-id 𝓤 H A W (G42 .slots)) ((Yields.yields-copy 𝓤 H A W (λ ρ. Unit) (Declared.row Side.the-type) Path'.refl (Copies.cEnum Side.the-type Laws'.the-laws Laws'.the-copy .copy 𝓤 H A W) (Rows'.whole (Declared.row Side.the-type)) (λ x. x) (λ x. x) (λ ρ told. Local.mem-whole 𝓤 H A W (Declared.row Side.the-type) ρ) λ ρ told. Local.whole-mem 𝓤 H A W (Declared.row Side.the-type) ρ, Path'.refl), (ShrSlice.spares-sslice 𝓤 H A W (Referent.rtF (Referent.fInt Syntax.w8)) τ11 0, Shared.reads-sslice 𝓤 H A W (Referent.rtF (Referent.fInt Syntax.w8)) τ11 0, Path'.refl, (ShrSlice.spares-sslice 𝓤 H A W (Referent.rtF (Referent.fInt Syntax.w32)) τ6 1, Shared.reads-sslice 𝓤 H A W (Referent.rtF (Referent.fInt Syntax.w32)) τ6 1, Path'.refl, (ShrSlice.spares-sslice 𝓤 H A W (Referent.rtF (Referent.fInt Syntax.w32)) τ7 2, Shared.reads-sslice 𝓤 H A W (Referent.rtF (Referent.fInt Syntax.w32)) τ7 2, Path'.refl, (ShrSlice.spares-sslice 𝓤 H A W (Referent.rtF (Referent.fInt Syntax.w32)) τ8 3, Shared.reads-sslice 𝓤 H A W (Referent.rtF (Referent.fInt Syntax.w32)) τ8 3, Path'.refl, (ShrSlice.spares-sslice 𝓤 H A W (Referent.rtF (Referent.fInt Syntax.w32)) τ9 4, Shared.reads-sslice 𝓤 H A W (Referent.rtF (Referent.fInt Syntax.w32)) τ9 4, Path'.refl, (ShrSlice.spares-sslice 𝓤 H A W (Referent.rtF (Referent.fInt Syntax.w32)) τ10 5, Shared.reads-sslice 𝓤 H A W (Referent.rtF (Referent.fInt Syntax.w32)) τ10 5, Path'.refl, ((Scalar.reads-sc 𝓤 H A W (Row.sInt Syntax.w64), Path'.refl), ((Scalar.reads-sc 𝓤 H A W (Row.sInt Syntax.w64), Path'.refl), (ShrRef.spares-sref 𝓤 H A W (Array'.Array (Referent.rtF (Referent.fInt Syntax.w8)) 4096) τ5 11, Reads.reads-sref 𝓤 H A W (Array'.Array (Referent.rtF (Referent.fInt Syntax.w8)) 4096) τ5 11, Path'.refl, (ShrRef.spares-sref 𝓤 H A W (Array'.Array (Referent.rtF (Referent.fInt Syntax.w32)) 4096) τ3 12, Reads.reads-sref 𝓤 H A W (Array'.Array (Referent.rtF (Referent.fInt Syntax.w32)) 4096) τ3 12, Path'.refl, (ShrRef.spares-sref 𝓤 H A W (Array'.Array (Referent.rtF (Referent.fInt Syntax.w32)) 4096) τ3 13, Reads.reads-sref 𝓤 H A W (Array'.Array (Referent.rtF (Referent.fInt Syntax.w32)) 4096) τ3 13, Path'.refl, tt)))))))))))) (Reads.room-gone 𝓤 H A τ0) (tt, (tt, (tt, (tt, (tt, (tt, (tt, (tt, (tt, tt))))))))) Path'.refl) d18
 
           d20 : Typed.Typed 𝓤 H A 𝓣 E G41 b17 Δ0 at20
           d20 = Typed.s-seq 𝓤 H A W 𝓣 E G41 G42 b13 b16 Δ0 (Typed.give s40) at19 (Local.t-sc-share 𝓤 H A W E 𝓣 G41 15 23 13 (Array'.Array (Referent.rtF (Referent.fInt Syntax.w32)) 4096) τ3 (λ x. x) (Whole.mem-arr 𝓤 H A W (Referent.rtF (Referent.fInt Syntax.w32)) 4096) (Reads.room-gone 𝓤 H A τ3) Path'.refl λ b o. tt) d19
@@ -1543,6 +1543,6 @@ module _ (claims· : Claims) where
           pub asked : (a : Kinds.Dens κs ps) → (good : Kinds.GoodsP κs ps a) → (pre : Pre· κs a) → (bs : List.List Nat.ℕ) → Φ (Any.wantQ 8 ps r xs m κs qs a (Post· κs a)) (Function.init 8 ps r xs m κs qs a)
           asked = λ a good pre bs. laid record { κs = κs; args = record { side = a .0; file = a .1 .0; places = a .1 .1 .0; lefts = a .1 .1 .1 .0; rights = a .1 .1 .1 .1 .0; prefixes = a .1 .1 .1 .1 .1 .0; area = a .1 .1 .1 .1 .1 .1 .0; head = a .1 .1 .1 .1 .1 .1 .1 .0; states = a .1 .1 .1 .1 .1 .1 .1 .1 .0 }; good = good; pre = pre }
 
-        module _ {M : Type 1} (𝓤 : URA.URA M) (H : Wp.Heap 𝓤) (A : Atoms.Atoms 𝓤) (W : Kit.Given 𝓤 H A) (𝓣 : Wp.Tables 𝓤 H) (known0 : Plain.Known 𝓤 H A W 𝓣 0 ps·0 r·0 (claims· .0) (claims· .1) "typing::length_of_head") (known1 : Plain.Known 𝓤 H A W 𝓣 0 ps·1 r·1 (claims· .2) (claims· .3) "typing::usable") (known2 : Plain.Known 𝓤 H A W 𝓣 4 ps·2 r·2 (claims· .4) (claims· .5) "typing::copy_out") (known3 : Plain.Known 𝓤 H A W 𝓣 9 ps·3 r·3 (claims· .6) (claims· .7) "typing_core::count_columns") where
+        module _ {M : Type 1} (𝓤 : URA.URA M) (H : Wp.Heap 𝓤) (A : Atoms.Atoms 𝓤) (W : Kit.Given 𝓤 H A) (𝓣 : Wp.Tables 𝓤 H) (known0 : Plain.Known 𝓤 H A W 𝓣 0 ps·0 r·0 (claims· .0) (claims· .1) "typing::length_of_head") (known1 : Plain.Known 𝓤 H A W 𝓣 0 ps·1 r·1 (claims· .2) (claims· .3) "typing::usable") (known2 : Plain.Known 𝓤 H A W 𝓣 4 ps·2 r·2 (claims· .4) (claims· .5) "typing::copy_out") (known3 : Plain.Known 𝓤 H A W 𝓣 9 ps·3 r·3 (claims· .6) (claims· .7) "typing_columns::count_columns") where
           pub spec : Statement.Triple 𝓤 (Wp.WpFn 𝓤 H (𝓣 .C) (𝓣 .Λ) (Function.fnOf 8 ps r xs m hs body)) (Function.plainOf 𝓤 H A 8 ps r Pre· Post·)
           spec = Plain.t-fn-plain 𝓤 H A W 𝓣 8 ps r xs m hs body (λ κs qs bs. Φ) (λ κs qs bs bd. typed κs qs 𝓤 H A W 𝓣 (known0, known1, known2, known3) bs bd) Pre· Post· asked

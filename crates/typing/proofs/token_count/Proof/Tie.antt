@@ -1,7 +1,7 @@
 -- Made by tools/carry: the borrow checker's `Tie` of the twin of `token_count`, carried over to the structs. Assumes nothing.
-use Rattle.typing_core.proofs.count_columns.Met
-use Rattle.typing_core.proofs.count_columns.Reads
-use Rattle.typing_core.proofs.count_columns.Symbol
+use Rattle.typing_columns.proofs.count_columns.Met
+use Rattle.typing_columns.proofs.count_columns.Reads
+use Rattle.typing_columns.proofs.count_columns.Symbol
 use Rattle.typing.proofs.copy_out.Met as Met'
 use Rattle.typing.proofs.Carried.copy_out.Reads as Reads'
 use Rattle.typing.proofs.copy_out.Symbol as Symbol'

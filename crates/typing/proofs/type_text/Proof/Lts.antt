@@ -4,8 +4,8 @@ use Rattle.typing.proofs.HeadKit
 use Prim.Native.Nat
 use Rattle.causes.proofs.Answer
 use Rattle.causes.proofs.Answer.Laws
-use Rattle.typing_core.proofs.Side
-use Rattle.typing_core.proofs.Side.Laws as Laws'
+use Rattle.typing_columns.proofs.Side
+use Rattle.typing_columns.proofs.Side.Laws as Laws'
 use borrow.Author.Called
 use borrow.Author.Tests
 use borrow.Fn.Any

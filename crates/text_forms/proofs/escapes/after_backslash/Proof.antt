@@ -1,0 +1,29 @@
+-- By the tests that led to each answer. Assumes nothing.
+use borrow.Author.Tests.{eq-eqb, ne-eqb}
+use Rattle.text_forms.specs.Escapes.{backslashed}
+use borrow.Author.Needs.{needs}
+use Rattle.text_forms.proofs.escapes.after_backslash.Statement.{statement}
+use Rattle.text_forms.proofs.escapes.after_backslash.Tie as tie
+
+returns : tie.Need-returns
+unfolding backslashed
+returns c = simp (eq-eqb _ _ (c .if1 .taken))
+
+returns-2 : tie.Need-returns-2
+unfolding backslashed
+returns-2 c = simp (ne-eqb _ _ (c .before .if1 .left), eq-eqb _ _ (c .if2 .taken))
+
+returns-3 : tie.Need-returns-3
+unfolding backslashed
+returns-3 c = simp (ne-eqb _ _ (c .before .before .if1 .left), ne-eqb _ _ (c .before .if2 .left), eq-eqb _ _ (c .if3 .taken))
+
+returns-4 : tie.Need-returns-4
+unfolding backslashed
+returns-4 c = simp (ne-eqb _ _ (c .before .before .before .if1 .left), ne-eqb _ _ (c .before .before .if2 .left), ne-eqb _ _ (c .before .if3 .left), eq-eqb _ _ (c .if4 .taken))
+
+returns-5 : tie.Need-returns-5
+unfolding backslashed
+returns-5 c = simp (ne-eqb _ _ (c .before .before .before .if1 .left), ne-eqb _ _ (c .before .before .if2 .left), ne-eqb _ _ (c .before .if3 .left), ne-eqb _ _ (c .if4 .left))
+
+pub after-backslash-spec : {M : Type 1} → statement M
+after-backslash-spec = tie.close (tie.spec returns returns-2 returns-3 returns-4 returns-5)

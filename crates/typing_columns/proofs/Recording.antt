@@ -1,0 +1,197 @@
+-- Records in form, test by test, and one record after the other. Assumes nothing.
+use mathlib.Core.Path.{_≡_, refl, sym, _∙_}
+use mathlib.Core.Logic.{⊎-elim}
+use mathlib.Core.List.{List}
+use mathlib.Core.Bool.{Bool, true, false, _&&_, _||_}
+use Prim.Native.Nat.{ℕ, suc, _+_, _-_, _≤_, _<_}
+use native.Mathlib.Nat.{eq-or-lt-of-le}
+use native.Mathlib.Omega.{arith}
+use lib.ListN.{length, getD}
+use lib.Dec.{ltb, eqb}
+use borrow.Author.Count.{below-more}
+use borrow.Author.Tests.{lt-ltb, le-ltb, lt-leb, ne-eqb, eq-eqb, eqb-true}
+use Rattle.theory.specs.Dictionary.{Dictionary}
+use Rattle.theory.specs.Typing.{Side, passesBeside, inForm}
+use Rattle.theory.proofs.Lists.{true-false, lt-or-ge}
+use Rattle.tables.specs.Tables.{PairTables, withPrefixes}
+use Rattle.tables.specs.InForm.{allBelow}
+use Rattle.tables.proofs.Sweeps.{all-more, all-done, all-fails}
+use Rattle.built_tables.specs.Built.{dictionaryOf, Built}
+use Rattle.end_code.specs.Tables.{RowsTo}
+use Rattle.typing_columns.specs.Steps.{CountsTo, endsBytes, followsCode, countWith, EndsReady, FollowsReady, FollowsIs, CountReady, CountIs, RecordsReady, RecordReady, RecordIs, RecordsAre}
+use Rattle.typing_columns.proofs.Rows.{row-count}
+
+or-last : (a : Bool) → a || false ≡ a
+or-last true = refl
+or-last false = refl
+
+and-last : (a : Bool) → a && false ≡ false
+and-last true = refl
+and-last false = refl
+
+and-three : (a b d : Bool) → (a && b) && d ≡ a && (b && d)
+and-three true b d = refl
+and-three false b d = refl
+
+module _ (D : Dictionary) (side : Side) (bytes codes counts : List ℕ) (i : ℕ) where
+  abbrev c : ℕ
+  c = getD codes i 0
+
+  abbrev k : ℕ
+  k = getD counts i 0
+
+  abbrev size : ℕ
+  size = length (D .bytes c)
+
+  abbrev Tested : Type 0
+  Tested = inForm D side bytes codes counts i
+      ≡ ltb c (D .count) && (endsBytes D side bytes i c && (followsCode D side codes i c && eqb k (countWith D counts i c)))
+
+  longer : suc i < size → Tested
+  unfolding inForm endsBytes followsCode countWith
+  longer h = rw (lt-leb size (suc i) h, and-last)
+
+  whole : size ≡ suc i → Tested
+  unfolding inForm endsBytes followsCode countWith
+  whole h = rw (eq-eqb size (suc i) h, le-ltb size (suc i) (omega arith), or-last) (and-three (ltb c (D .count)) (endsBytes D side bytes i c) (eqb k 1))
+
+  shorter : size < suc i → Tested
+  unfolding inForm endsBytes followsCode countWith
+  shorter h = rw (ne-eqb size (suc i) (λ e. omega arith), lt-ltb size (suc i) h)
+      (and-three (ltb c (D .count)) (endsBytes D side bytes i c) (passesBeside D side (getD codes (i - size) 0) c && eqb k (suc (getD counts (i - size) 0))))
+
+  -- the tests of a record in form, one by one
+  tests : Tested
+  tests = ⊎-elim longer (λ l. ⊎-elim whole shorter (eq-or-lt-of-le l)) (lt-or-ge (suc i) size)
+
+-- what the tests of record i need
+module _ (P : PairTables) (n : ℕ) (bytes reading codes counts : List ℕ) (i : ℕ)
+    (R : RecordReady P n bytes reading codes counts i) (h : getD codes i 0 < n) where
+  open PairTables P using (file, places)
+
+  pub record-ends-ready : EndsReady file places n bytes reading i (getD codes i 0)
+  record-ends-ready = record { places-ready = R .ready .in-form .places-ready; row = h; mirrored = R .ready .mirrored }
+
+  pub record-follows-ready : FollowsReady P n codes i (getD codes i 0)
+  record-follows-ready = record {
+    in-form = R .ready .in-form;
+    before = record { room = omega (arith, R .ready .codes-size, R .ready .mirrored .fits); rows = R .rows };
+    row = h;
+  }
+
+  pub record-count-ready : CountReady file places n counts i (getD codes i 0)
+  record-count-ready = record {
+    places-ready = R .ready .in-form .places-ready;
+    place = R .ready .mirrored .fits;
+    room = omega (arith, R .ready .counts-size, R .ready .mirrored .fits);
+    small = R .small;
+    row = h;
+  }
+
+module _ (P : PairTables) (side : Side) (n : ℕ) (bytes reading codes counts : List ℕ) (i : ℕ)
+    (R : RecordReady P n bytes reading codes counts i) where
+  open PairTables P using (file, places)
+
+  abbrev D' : Dictionary
+  D' = dictionaryOf file
+
+  abbrev c' : ℕ
+  c' = getD codes i 0
+
+  counted : D' .count ≡ n
+  counted = row-count file places n (R .ready .in-form .places-ready)
+
+  -- a record that fails a test
+  fails : ((prefixes : List ℕ) → Built (withPrefixes P prefixes) n
+      → false ≡ ltb c' (D' .count) && (endsBytes D' side bytes i c' && (followsCode D' side codes i c' && eqb (getD counts i 0) (countWith D' counts i c'))))
+      → RecordIs P side n bytes codes counts i false
+  fails f = record {
+    row = λ e. absurd (true-false (sym e));
+    small = λ e. absurd (true-false (sym e));
+    built = λ prefixes B. f prefixes B ∙ sym (tests D' side bytes codes counts i);
+  }
+
+  -- its code is no row
+  pub record-unknown : (x : ℕ) → x ≡ c' → n ≤ x → RecordIs P side n bytes codes counts i false
+  record-unknown x e h = fails (λ prefixes B. rw (le-ltb c' (D' .count) (omega (arith, counted))))
+
+  module _ (h : c' < n) where
+    known : ltb c' (D' .count) ≡ true
+    known = lt-ltb c' (D' .count) (omega (arith, counted))
+
+    -- its row does not end the bytes
+    pub record-other : endsBytes D' side bytes i c' ≡ false → RecordIs P side n bytes codes counts i false
+    record-other e = fails (λ prefixes B. rw (known, e))
+
+    module _ (ends : endsBytes D' side bytes i c' ≡ true) where
+      -- its row does not follow the code before it
+      pub record-apart : FollowsIs P side n codes i c' false → RecordIs P side n bytes codes counts i false
+      record-apart F = fails (λ prefixes B. rw (known, ends, ← F .built prefixes B))
+
+      -- the count decides
+      pub record-counted : FollowsIs P side n codes i c' true → (k : ℕ) → CountIs file counts i c' k
+          → RecordIs P side n bytes codes counts i (eqb (getD counts i 0) k)
+      record-counted F k C = record {
+        row = λ _. h;
+        small = λ e. let z = eqb-true (getD counts i 0) k e in omega (arith, C .small);
+        built = λ prefixes B. rw (tests D' side bytes codes counts i, known, ends, ← F .built prefixes B, C .is);
+      }
+
+module _ (P : PairTables) (side : Side) (n : ℕ) (bytes reading codes counts : List ℕ) (len : ℕ) where
+  open PairTables P using (file)
+
+  -- the records below i are in form
+  pub record Recorded (i : ℕ) : Type 0 where
+    pub ready : RecordsReady P n bytes reading codes counts len
+    pub within : i ≤ len
+    pub rows : RowsTo n codes i
+    pub small : CountsTo counts i
+    pub built : (prefixes : List ℕ) → Built (withPrefixes P prefixes) n → allBelow i (inForm (dictionaryOf file) side bytes codes counts) ≡ true
+
+  pub records-start : RecordsReady P n bytes reading codes counts len → Recorded 0
+  unfolding allBelow
+  records-start R = record { ready = R; within = omega arith; rows = λ j h. absurd (omega arith); small = λ j h. absurd (omega arith); built = λ prefixes B. refl }
+
+  module _ (i : ℕ) (S : Recorded i) where
+    pub records-end : len ≤ i → RecordsAre P side n bytes codes counts len true
+    records-end h = record {
+      none-yet = λ _. refl;
+      rows = λ _ j l. S .rows j (omega arith);
+      small = λ _ j l. S .small j (omega arith);
+      built = λ prefixes B. all-done (inForm (dictionaryOf file) side bytes codes counts) len i (S .within) h (S .built prefixes B);
+    }
+
+    module _ (h : i < len) where
+      pub records-ready : RecordReady P n bytes reading codes counts i
+      records-ready = record {
+        ready = record {
+          in-form = S .ready .in-form;
+          mirrored = record {
+            size = S .ready .mirrored .size;
+            bytes-size = S .ready .mirrored .bytes-size;
+            fits = omega (arith, S .ready .mirrored .fits);
+            same = λ j l. S .ready .mirrored .same j (omega arith);
+          };
+          codes-size = S .ready .codes-size;
+          counts-size = S .ready .counts-size;
+        };
+        rows = S .rows;
+        small = S .small;
+      }
+
+      pub records-fail : RecordIs P side n bytes codes counts i false → RecordsAre P side n bytes codes counts len false
+      records-fail F = record {
+        none-yet = λ e. absurd (omega arith);
+        rows = λ e. absurd (true-false (sym e));
+        small = λ e. absurd (true-false (sym e));
+        built = λ prefixes B. all-fails (inForm (dictionaryOf file) side bytes codes counts) len i h (sym (F .built prefixes B));
+      }
+
+      pub records-more : RecordIs P side n bytes codes counts i true → Recorded (i + 1)
+      records-more F = record {
+        ready = S .ready;
+        within = omega arith;
+        rows = below-more _ i (S .rows) (F .row refl);
+        small = below-more _ i (S .small) (F .small refl);
+        built = λ prefixes B. all-more (inForm (dictionaryOf file) side bytes codes counts) i (S .built prefixes B) (sym (F .built prefixes B));
+      }

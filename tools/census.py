@@ -1,8 +1,8 @@
 #!/usr/bin/env python3
 """The must-fail edits by public call, and which edit shows each wrong program that document 01 names. An edit of the
-gate says in its first lines what it is an edit of ('call: NAME') and, where it is one of document 01's, which ('shows:
-WORDS'). Says what is missing: a public call with fewer than two edits of its program, a wrong program that no edit of a
-program shows."""
+gate says in its first lines what it is an edit of ('call: NAME', or several with commas) and, where it is one of document
+01's, which ('shows: WORDS'). Says what is missing: a public call with fewer than two edits of its program, a wrong
+program that no edit of a program shows."""
 import glob, sys
 
 CALLS = [
@@ -33,13 +33,13 @@ edits = []  # name, call, what it shows, whether it edits a program
 for file in sorted(glob.glob('crates/*/must-fail/*.edit')):
     text = open(file).read()
     _, crate, _, label = file.split('/')
-    edits.append((f'{crate}/{label[:-5]}', field(text, 'call'), field(text, 'shows'), 'file: src/' in text))
+    edits.append((f'{crate}/{label[:-5]}', field(text, 'call').split(', '), field(text, 'shows'), 'file: src/' in text))
 long = {}
 for file in glob.glob('crates/*/must-fail/long/*.edit'):
     crate = file.split('/')[1]
     long[crate] = long.get(crate, 0) + 1
 
-missing = [f'{name} has no call: line' for name, call, _, _ in edits if not call]
+missing = [f'{name} has no call: line' for name, calls, _, _ in edits if not all(calls)]
 
 
 def table(head, rows):
@@ -53,14 +53,14 @@ def table(head, rows):
 
 rows = []
 for call in CALLS:
-    of_call = [(name, program) for name, c, _, program in edits if c == call]
+    of_call = [(name, program) for name, calls, _, program in edits if call in calls]
     if sum(program for _, program in of_call) < 2:
         missing.append(f'{call} has fewer than two edits of its program')
     rows.append((call, [name for name, _ in of_call]))
 table('public call', rows)
 
-others = sorted({c for _, c, _, _ in edits if c not in CALLS})
-table('definition or function beside them', [(o, [name for name, c, _, _ in edits if c == o]) for o in others])
+others = sorted({c for _, calls, _, _ in edits for c in calls if c not in CALLS})
+table('definition or function beside them', [(o, [name for name, calls, _, _ in edits if o in calls]) for o in others])
 
 for kind, head in (('condition 3', "wrong program of document 01's condition 3"), ('trap', 'trap of document 01')):
     rows = []

@@ -1,4 +1,6 @@
 // Decimal numbers.
+ghost use mathlib.Core.Path.{_≡_};
+ghost use Rattle.words.specs.Numbers.{withDigit, numberOf};
 
 // What a word writes.
 pub enum Parsed {
@@ -8,7 +10,9 @@ pub enum Parsed {
 }
 
 // One digit more.
-fn add_digit(value: u64, byte: u8) -> Parsed {
+fn add_digit(value: u64, byte: u8) -> Parsed
+    ensures { λ r. ⌜ r ≡ withDigit value byte ⌝ }
+{
     if byte < b'0' {
         return Parsed::Nothing;
     }
@@ -27,7 +31,9 @@ fn add_digit(value: u64, byte: u8) -> Parsed {
 }
 
 // The number that a word writes.
-pub fn number(word: &[u8]) -> Parsed {
+pub fn number(word: &[u8]) -> Parsed
+    ensures { λ r. ⌜ r ≡ numberOf (now (word .entry)) ⌝ }
+{
     if word.len() == 0 {
         return Parsed::Nothing;
     }

@@ -1,4 +1,5 @@
 // What the programs print, to standard output.
+ghost use mathlib.Core.Path.{_≡_};
 
 // Bytes as they are.
 pub fn say(text: &[u8]) {
@@ -6,7 +7,9 @@ pub fn say(text: &[u8]) {
 }
 
 // A number of 32 bits as one of 64.
-pub fn wide(x: u32) -> u64 {
+pub fn wide(x: u32) -> u64
+    ensures { λ r. ⌜ r ≡ x ⌝ }
+{
     x as u64
 }
 

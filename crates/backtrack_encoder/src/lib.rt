@@ -118,7 +118,7 @@ pub fn start(file: &[u8], places: &[u32], area: &[u32], n: usize, text: &[u8]) -
         (length (now text) ≤ 4096)) ⌝ }
     ensures { λ r. ⌜ Started (now (file .entry)) (now (places .entry)) (now (area .entry)) n (now (text .entry)) r ⌝ }
 {
-    let found = next_match(file, places, n, area, text, 0);
+    let found = next_match(file, places, area, n, text, 0);
     BacktrackEncoder {
         count: 0,
         pos: 0,
@@ -147,7 +147,7 @@ fn add(
     work[at] = token;
     let count = at + 1;
     let pos = encoder.pos + length_of(file, places, n, wide(token));
-    let found = next_match(file, places, n, area, text, pos);
+    let found = next_match(file, places, area, n, text, pos);
     BacktrackEncoder {
         count,
         pos,

@@ -18,14 +18,14 @@ mod typed;
 use placed_rows::wide;
 
 // The row with the bytes of row x.
-fn find_row(file: &[u8], places: &[u32], n: usize, area: &[u32], x: u32) -> u32
+fn find_row(file: &[u8], places: &[u32], area: &[u32], n: usize, x: u32) -> u32
     requires { ⌜ Placed (now file) (now places) n ⌝ }
     requires { ⌜ (areaSize ≤ length (now area)) × (x < n) ⌝ }
     ensures { λ r. ⌜ Found (now (file .entry)) (now (places .entry)) n (now (area .entry))
         (row (now (file .entry)) (now (places .entry)) n x) r ⌝ }
 {
     let bytes = placed_rows::bytes_of(file, places, n, wide(x));
-    search_area::find(file, places, n, area, bytes)
+    search_area::find(file, places, area, n, bytes)
 }
 
 // Whether x and y pass, as a number.
@@ -54,8 +54,8 @@ fn pair_number(
 pub extern "C" fn measured_finds(
     file: &[u8],
     places: &[u32],
-    n: usize,
     area: &[u32],
+    n: usize,
     codes: &[u32],
     out: &mut [u32],
 )
@@ -65,7 +65,7 @@ pub extern "C" fn measured_finds(
 {
     let mut i = 0;
     while i < codes.len() {
-        out[i] = find_row(file, places, n, area, codes[i]);
+        out[i] = find_row(file, places, area, n, codes[i]);
         i += 1;
     }
 }
@@ -75,8 +75,8 @@ pub extern "C" fn measured_finds(
 pub extern "C" fn measured_joins(
     file: &[u8],
     places: &[u32],
-    n: usize,
     area: &[u32],
+    n: usize,
     codes: &[u32],
     others: &[u32],
     out: &mut [u32],
@@ -87,7 +87,7 @@ pub extern "C" fn measured_joins(
 {
     let mut i = 0;
     while i < codes.len() {
-        out[i] = search_area::join(file, places, n, area, codes[i], others[i]);
+        out[i] = search_area::join(file, places, area, n, codes[i], others[i]);
         i += 1;
     }
 }
@@ -99,8 +99,8 @@ pub extern "C" fn measured_pairs(
     places: &[u32],
     lefts: &[u32],
     rights: &[u32],
-    n: usize,
     area: &[u32],
+    n: usize,
     codes: &[u32],
     others: &[u32],
     out: &mut [u32],

@@ -76,10 +76,10 @@ fn clear_all(
 fn fill_rows(
     file: &[u8],
     factor: u64,
-    n: usize,
     places: &mut [u32],
     prefixes: &mut [u32],
     area: &mut [u32],
+    n: usize,
 ) -> usize
     requires { ⌜ RowsFit (now file) (now places) (now prefixes) (now area) n ⌝ }
     ensures { λ r. ⌜ RowsFilled (before file) factor n (before places) (before prefixes) (before area)
@@ -90,7 +90,7 @@ fn fill_rows(
     if clash < n {
         return clash;
     }
-    search_fill::fill(file, places, n, prefixes, area);
+    search_fill::fill(file, places, prefixes, area, n);
     clash
 }
 
@@ -98,18 +98,18 @@ fn fill_rows(
 fn fill_tables(
     file: &[u8],
     factor: u64,
-    n: usize,
     places: &mut [u32],
     lefts: &mut [u32],
     rights: &mut [u32],
     prefixes: &mut [u32],
     area: &mut [u32],
+    n: usize,
 ) -> BuildAnswer
     requires { ⌜ Buildable factor (given file places lefts rights prefixes area) n ⌝ }
     ensures { λ r. ⌜ TablesFilled factor n (lent file places lefts rights prefixes area)
         (left file places lefts rights prefixes area) r ⌝ }
 {
-    let same_hash = fill_rows(file, factor, n, places, prefixes, area);
+    let same_hash = fill_rows(file, factor, places, prefixes, area, n);
     if same_hash < n {
         return BuildAnswer::Refused(Cause::SameHash(same_hash as u32));
     }
@@ -124,18 +124,18 @@ fn fill_tables(
 fn build_rows(
     file: &[u8],
     factor: u64,
-    n: usize,
     places: &mut [u32],
     lefts: &mut [u32],
     rights: &mut [u32],
     prefixes: &mut [u32],
     area: &mut [u32],
+    n: usize,
 ) -> BuildAnswer
     requires { ⌜ Buildable factor (given file places lefts rights prefixes area) n ⌝ }
     ensures { λ r. ⌜ BuildIs factor (lent file places lefts rights prefixes area)
         (left file places lefts rights prefixes area) r ⌝ }
 {
-    let answer = fill_tables(file, factor, n, places, lefts, rights, prefixes, area);
+    let answer = fill_tables(file, factor, places, lefts, rights, prefixes, area, n);
     match answer {
         BuildAnswer::Rows(count) => BuildAnswer::Rows(count),
         BuildAnswer::Refused(cause) => {
@@ -168,7 +168,7 @@ pub fn from_dictionary(
             if are_short(file, places, lefts, rights, prefixes, area, n) {
                 return BuildAnswer::Refused(Cause::TooShort);
             }
-            build_rows(file, factor, n, places, lefts, rights, prefixes, area)
+            build_rows(file, factor, places, lefts, rights, prefixes, area, n)
         }
     }
 }

@@ -117,7 +117,7 @@ fn byte_row(file: &[u8], places: &[u32], area: &[u32], n: usize, bytes: &[u8], i
     requires { ⌜ ByteReady (now file) (now places) (now area) n (now bytes) i ⌝ }
     ensures { λ r. ⌜ ByteIs (now (file .entry)) (now (places .entry)) (now (area .entry)) n (now (bytes .entry)) i r ⌝ }
 {
-    let found = search_area::first_match(file, places, n, area, bytes, i);
+    let found = search_area::first_match(file, places, area, n, bytes, i);
     if found.row == NONE {
         // Never on the tables of a build: each byte has a row.
         return 0;

@@ -139,8 +139,8 @@ fn is_one_longer(w: u32, b: u8) -> bool
 fn listed_child(
     file: &[u8],
     places: &[u32],
-    n: usize,
     area: &[u32],
+    n: usize,
     first: u32,
     p: u32,
     len: usize,
@@ -179,8 +179,8 @@ fn listed_child(
 fn bucket_child(
     file: &[u8],
     places: &[u32],
-    n: usize,
     area: &[u32],
+    n: usize,
     first: u32,
     p: u32,
     len: usize,
@@ -204,11 +204,11 @@ fn bucket_child(
             len: len + 1,
         };
     }
-    listed_child(file, places, n, area, first, p, len, text, at)
+    listed_child(file, places, area, n, first, p, len, text, at)
 }
 
 // The row that is the byte b alone, where there is one: it is first in its bucket.
-pub fn byte_row(file: &[u8], places: &[u32], n: usize, area: &[u32], b: u8) -> u32
+pub fn byte_row(file: &[u8], places: &[u32], area: &[u32], n: usize, b: u8) -> u32
     requires { ⌜ Placed (now file) (now places) n ⌝ }
     requires { ⌜ hints ≤ length (now area) ⌝ }
     ensures { λ r. ⌜ ByteRow (row (now (file .entry)) (now (places .entry)) n) n (now (area .entry)) b r ⌝ }
@@ -224,8 +224,8 @@ pub fn byte_row(file: &[u8], places: &[u32], n: usize, area: &[u32], b: u8) -> u
 pub fn child(
     file: &[u8],
     places: &[u32],
-    n: usize,
     area: &[u32],
+    n: usize,
     p: u32,
     len: usize,
     text: &[u8],
@@ -247,8 +247,8 @@ pub fn child(
     bucket_child(
         file,
         places,
-        n,
         area,
+        n,
         area[bucket(p, next)],
         p,
         len,
@@ -261,8 +261,8 @@ pub fn child(
 pub fn descend(
     file: &[u8],
     places: &[u32],
-    n: usize,
     area: &[u32],
+    n: usize,
     from: u32,
     len: usize,
     text: &[u8],
@@ -297,7 +297,7 @@ pub fn descend(
             end += 1;
             continue;
         }
-        let m = child(file, places, n, area, best, size, text, end);
+        let m = child(file, places, area, n, best, size, text, end);
         let r = m.row;
         if r == NONE {
             return Match {
@@ -315,7 +315,7 @@ pub fn descend(
 }
 
 // The shortest row that begins the text from at on, with its length, or NONE.
-fn root_child(file: &[u8], places: &[u32], n: usize, area: &[u32], text: &[u8], at: usize) -> Match
+fn root_child(file: &[u8], places: &[u32], area: &[u32], n: usize, text: &[u8], at: usize) -> Match
     requires { ⌜ Placed (now file) (now places) n ⌝ }
     requires { ⌜ (hints ≤ length (now area)) × (at ≤ length (now text)) ⌝ }
     ensures { λ r. ⌜ ChildIs (row (now (file .entry)) (now (places .entry)) n) n (now (area .entry)) none 0
@@ -327,8 +327,8 @@ fn root_child(file: &[u8], places: &[u32], n: usize, area: &[u32], text: &[u8], 
     bucket_child(
         file,
         places,
-        n,
         area,
+        n,
         area[root_bucket(text[at])],
         NONE,
         0,
@@ -338,19 +338,19 @@ fn root_child(file: &[u8], places: &[u32], n: usize, area: &[u32], text: &[u8], 
 }
 
 // The longest row that begins the text from at on, with its length, or NONE and 0.
-pub fn longest(file: &[u8], places: &[u32], n: usize, area: &[u32], text: &[u8], at: usize) -> Match
+pub fn longest(file: &[u8], places: &[u32], area: &[u32], n: usize, text: &[u8], at: usize) -> Match
     requires { ⌜ Placed (now file) (now places) n ⌝ }
     requires { ⌜ (hints ≤ length (now area)) × (at ≤ length (now text)) ⌝ }
     ensures { λ r. ⌜ Descent (row (now (file .entry)) (now (places .entry)) n) n (now (area .entry)) none 0
         (drop at (now (text .entry))) (r .row) (r .len) ⌝ }
 {
-    let m = root_child(file, places, n, area, text, at);
+    let m = root_child(file, places, area, n, text, at);
     let r = m.row;
     if r == NONE {
         return Match { row: NONE, len: 0 };
     }
     let l = m.len;
-    descend(file, places, n, area, r, l, text, at + l)
+    descend(file, places, area, n, r, l, text, at + l)
 }
 
 // Where a word comes into bucket h: at its head where the bucket is empty, else at the link of its first word.
@@ -387,14 +387,14 @@ fn bucket_of(p: u32, b: u8) -> usize
 }
 
 // Row c goes into the area, under the longest row in it that begins row c.
-pub fn insert(file: &[u8], places: &[u32], n: usize, area: &mut [u32], c: usize)
+pub fn insert(file: &[u8], places: &[u32], area: &mut [u32], n: usize, c: usize)
     requires { ⌜ Placed (now file) (now places) n ⌝ }
     requires { ⌜ (hints ≤ length (now area)) × ((c < n) × (length (row (now file) (now places) n c) ≤ 64)) ⌝ }
     ensures { λ r. ⌜ Inserted (row (now (file .entry)) (now (places .entry)) n) n (now (area .entry)) c
         (now (area .exit)) ⌝ }
 {
     let bytes = placed_rows::bytes_of(file, places, n, c);
-    let m = longest(file, places, n, area, bytes, 0);
+    let m = longest(file, places, area, n, bytes, 0);
     let p = m.row;
     let k = m.len;
     if k < bytes.len() {

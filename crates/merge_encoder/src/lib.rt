@@ -31,7 +31,7 @@ fn byte_code(file: &[u8], places: &[u32], area: &[u32], n: usize, text: &[u8], a
         (getD (now (text .entry)) at 0) r ⌝ }
 {
     let end = at + 1;
-    let code = search_area::find(file, places, n, area, &text[at..end]);
+    let code = search_area::find(file, places, area, n, &text[at..end]);
     if code == NONE {
         return 0;
     }

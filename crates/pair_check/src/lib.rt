@@ -99,7 +99,7 @@ fn look_up(
     if is_listed_before(lefts, rights, hint, limit, left, right) {
         return row_below(hint, bound);
     }
-    let combined = search_area::join(file, places, n, area, left, right);
+    let combined = search_area::join(file, places, area, n, left, right);
     if is_listed_before(lefts, rights, combined, bound, left, right) {
         return combined;
     }
@@ -267,7 +267,7 @@ fn may_join(area: &[u32], a: u8, b: u8) -> bool
 }
 
 // Whether the seam of two rows is marked.
-fn may_meet(file: &[u8], places: &[u32], n: usize, area: &[u32], left: u32, right: u32) -> bool
+fn may_meet(file: &[u8], places: &[u32], area: &[u32], n: usize, left: u32, right: u32) -> bool
     requires { ⌜ SeamReady (now file) (now places) (now area) n left right ⌝ }
     ensures { λ r. ⌜ r ≡ marked (now (area .entry)) seams (seamKey (lastByte (now (file .entry)) left)
         (firstByte (now (file .entry)) right)) ⌝ }
@@ -292,7 +292,7 @@ pub fn is_valid_pair(
     requires { ⌜ PairReady (pairGiven file places lefts rights area) n limit token1 token2 ⌝ }
     ensures { λ r. ⌜ PassIs (pairLent file places lefts rights area) n limit token1 token2 r ⌝ }
 {
-    if !may_meet(file, places, n, area, token1, token2) {
+    if !may_meet(file, places, area, n, token1, token2) {
         return true;
     }
     is_valid_pair_below(file, places, lefts, rights, area, n, limit, token1, token2)

@@ -37,7 +37,7 @@ fn right_part(
 {
     let bytes = placed_rows::bytes_of(file, places, n, wide(w));
     let from = placed_rows::length_of(file, places, n, wide(left));
-    let right = search_area::find(file, places, n, area, &bytes[from..]);
+    let right = search_area::find(file, places, area, n, &bytes[from..]);
     if w <= left {
         return NONE;
     }
@@ -150,7 +150,7 @@ fn write_parts(
 }
 
 // Marks the seam of row w, if it is a longer one: its last byte within the left part, and the next one.
-fn mark_seam(file: &[u8], places: &[u32], n: usize, area: &mut [u32], w: usize, left: u32)
+fn mark_seam(file: &[u8], places: &[u32], area: &mut [u32], n: usize, w: usize, left: u32)
     requires { ⌜ SeamFit (now file) (now places) (now area) n w left ⌝ }
     ensures { λ _. ⌜ SeamWritten (now (file .entry)) (now (area .entry)) w left (now (area .exit)) ⌝ }
 {
@@ -191,7 +191,7 @@ pub fn fill_parts(
             return w;
         }
         write_parts(lefts, rights, area, w, left, parts.right);
-        mark_seam(file, places, n, area, w, left);
+        mark_seam(file, places, area, n, w, left);
         w += 1;
     }
     n

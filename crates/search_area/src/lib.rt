@@ -14,8 +14,8 @@ use placed_rows::NONE;
 pub fn next_match(
     file: &[u8],
     places: &[u32],
-    n: usize,
     area: &[u32],
+    n: usize,
     text: &[u8],
     at: usize,
 ) -> Match
@@ -24,15 +24,15 @@ pub fn next_match(
     ensures { λ r. ⌜ NextMatch (now (file .entry)) (now (places .entry)) n (now (area .entry))
         (drop at (now (text .entry))) (r .row) (r .len) ⌝ }
 {
-    forest::longest(file, places, n, area, text, at)
+    forest::longest(file, places, area, n, text, at)
 }
 
 // The shortest row that begins the text from at on, with its length, or NONE: each byte is a row.
 pub fn first_match(
     file: &[u8],
     places: &[u32],
-    n: usize,
     area: &[u32],
+    n: usize,
     text: &[u8],
     at: usize,
 ) -> Match
@@ -45,7 +45,7 @@ pub fn first_match(
         return Match { row: NONE, len: 0 };
     }
     Match {
-        row: forest::byte_row(file, places, n, area, text[at]),
+        row: forest::byte_row(file, places, area, n, text[at]),
         len: 1,
     }
 }
@@ -55,8 +55,8 @@ pub fn first_match(
 pub fn longer_match(
     file: &[u8],
     places: &[u32],
-    n: usize,
     area: &[u32],
+    n: usize,
     row: u32,
     len: usize,
     text: &[u8],
@@ -67,30 +67,30 @@ pub fn longer_match(
     ensures { λ r. ⌜ LongerMatch (now (file .entry)) (now (places .entry)) n (now (area .entry))
         (drop at (now (text .entry))) row len (r .row) (r .len) ⌝ }
 {
-    forest::child(file, places, n, area, row, len, text, at + len)
+    forest::child(file, places, area, n, row, len, text, at + len)
 }
 
 // The row with these bytes, or NONE.
-pub fn find(file: &[u8], places: &[u32], n: usize, area: &[u32], bytes: &[u8]) -> u32
+pub fn find(file: &[u8], places: &[u32], area: &[u32], n: usize, bytes: &[u8]) -> u32
     requires { ⌜ Placed (now file) (now places) n ⌝ }
     requires { ⌜ areaSize ≤ length (now area) ⌝ }
     ensures { λ r. ⌜ Found (now (file .entry)) (now (places .entry)) n (now (area .entry)) (now (bytes .entry)) r ⌝ }
 {
-    let m = forest::longest(file, places, n, area, bytes, 0);
+    let m = forest::longest(file, places, area, n, bytes, 0);
     let r = m.row;
     let l = m.len;
     if l == bytes.len() { r } else { NONE }
 }
 
 // The row with the bytes of row x followed by those of row y, or NONE.
-pub fn join(file: &[u8], places: &[u32], n: usize, area: &[u32], x: u32, y: u32) -> u32
+pub fn join(file: &[u8], places: &[u32], area: &[u32], n: usize, x: u32, y: u32) -> u32
     requires { ⌜ Placed (now file) (now places) n ⌝ }
     requires { ⌜ (areaSize ≤ length (now area)) × ((x < n) × (y < n)) ⌝ }
     ensures { λ r. ⌜ Joined (now (file .entry)) (now (places .entry)) n (now (area .entry)) x y r ⌝ }
 {
     let a = placed_rows::length_of(file, places, n, placed_rows::wide(x));
     let bytes = placed_rows::bytes_of(file, places, n, placed_rows::wide(y));
-    let m = forest::descend(file, places, n, area, x, a, bytes, 0);
+    let m = forest::descend(file, places, area, n, x, a, bytes, 0);
     let r = m.row;
     let l = m.len;
     if l == a + bytes.len() { r } else { NONE }

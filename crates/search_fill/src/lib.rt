@@ -18,16 +18,16 @@ fn empty(area: &mut [u32])
 }
 
 // Row c goes into the rows' part.
-fn add_row(file: &[u8], places: &[u32], n: usize, area: &mut [u32], c: usize)
+fn add_row(file: &[u8], places: &[u32], area: &mut [u32], n: usize, c: usize)
     requires { ⌜ Placed (now file) (now places) n ⌝ }
     requires { ⌜ (areaSize ≤ length (now area)) × ((c < n) × (length (row (now file) (now places) n c) ≤ 64)) ⌝ }
     ensures { λ r. ⌜ RowIn (now (file .entry)) (now (places .entry)) n (now (area .entry)) c (now (area .exit)) ⌝ }
 {
-    forest::insert(file, places, n, &mut area[..HINTS], c);
+    forest::insert(file, places, &mut area[..HINTS], n, c);
 }
 
 // All rows of len bytes go in.
-fn add_length(file: &[u8], places: &[u32], n: usize, area: &mut [u32], len: usize)
+fn add_length(file: &[u8], places: &[u32], area: &mut [u32], n: usize, len: usize)
     requires { ⌜ Placed (now file) (now places) n ⌝ }
     requires { ⌜ (areaSize ≤ length (now area)) × (len ≤ 64) ⌝ }
     ensures { λ r. ⌜ RowsIn (now (file .entry)) (now (places .entry)) n (now (area .entry)) (len * 4096)
@@ -36,14 +36,14 @@ fn add_length(file: &[u8], places: &[u32], n: usize, area: &mut [u32], len: usiz
     let mut c = 0;
     while c < n {
         if placed_rows::length_of(file, places, n, c) == len {
-            add_row(file, places, n, area, c);
+            add_row(file, places, area, n, c);
         }
         c += 1;
     }
 }
 
 // The search area is filled: shorter rows first, so that the prefix of a row is there before it.
-fn fill_area(file: &[u8], places: &[u32], n: usize, area: &mut [u32])
+fn fill_area(file: &[u8], places: &[u32], area: &mut [u32], n: usize)
     requires { ⌜ Placed (now file) (now places) n ⌝ }
     requires { ⌜ areaSize ≤ length (now area) ⌝ }
     ensures { λ r. ⌜ AreaFilled (now (file .entry)) (now (places .entry)) n (now (area .entry)) (now (area .exit)) ⌝ }
@@ -51,13 +51,13 @@ fn fill_area(file: &[u8], places: &[u32], n: usize, area: &mut [u32])
     empty(area);
     let mut len = 1;
     while len < 65 {
-        add_length(file, places, n, area, len);
+        add_length(file, places, area, n, len);
         len += 1;
     }
 }
 
 // The prefix of row c: the longest row that begins what it has before its last byte.
-fn prefix_of(file: &[u8], places: &[u32], n: usize, area: &[u32], c: usize) -> u32
+fn prefix_of(file: &[u8], places: &[u32], area: &[u32], n: usize, c: usize) -> u32
     requires { ⌜ Placed (now file) (now places) n ⌝ }
     requires { ⌜ (areaSize ≤ length (now area)) × (c < n) ⌝ }
     ensures { λ r. ⌜ PrefixIs (now (file .entry)) (now (places .entry)) n (now (area .entry)) c r ⌝ }
@@ -67,12 +67,12 @@ fn prefix_of(file: &[u8], places: &[u32], n: usize, area: &[u32], c: usize) -> u
         return NONE;
     }
     let end = bytes.len() - 1;
-    let m = search_area::next_match(file, places, n, area, &bytes[..end], 0);
+    let m = search_area::next_match(file, places, area, n, &bytes[..end], 0);
     m.row
 }
 
 // The prefixes of all rows.
-fn fill_prefixes(file: &[u8], places: &[u32], n: usize, area: &[u32], prefixes: &mut [u32])
+fn fill_prefixes(file: &[u8], places: &[u32], prefixes: &mut [u32], area: &[u32], n: usize)
     requires { ⌜ Placed (now file) (now places) n ⌝ }
     requires { ⌜ (areaSize ≤ length (now area)) × (n ≤ length (now prefixes)) ⌝ }
     ensures { λ r. ⌜ PrefixesFilled (now (file .entry)) (now (places .entry)) n (now (area .entry))
@@ -80,18 +80,18 @@ fn fill_prefixes(file: &[u8], places: &[u32], n: usize, area: &[u32], prefixes: 
 {
     let mut c = 0;
     while c < n {
-        prefixes[c] = prefix_of(file, places, n, area, c);
+        prefixes[c] = prefix_of(file, places, area, n, c);
         c += 1;
     }
 }
 
 // The search area and the prefixes of all rows.
-pub fn fill(file: &[u8], places: &[u32], n: usize, prefixes: &mut [u32], area: &mut [u32])
+pub fn fill(file: &[u8], places: &[u32], prefixes: &mut [u32], area: &mut [u32], n: usize)
     requires { ⌜ Placed (now file) (now places) n ⌝ }
     requires { ⌜ (n ≤ length (now prefixes)) × (areaSize ≤ length (now area)) ⌝ }
     ensures { λ r. ⌜ Filled (now (file .entry)) (now (places .entry)) n (now (prefixes .entry)) (now (area .entry))
         (now (prefixes .exit)) (now (area .exit)) ⌝ }
 {
-    fill_area(file, places, n, area);
-    fill_prefixes(file, places, n, area, prefixes);
+    fill_area(file, places, area, n);
+    fill_prefixes(file, places, prefixes, area, n);
 }

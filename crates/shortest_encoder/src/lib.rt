@@ -53,7 +53,7 @@ fn best_at(
     ensures { λ r. ⌜ EntryIs (now (file .entry)) (now (places .entry)) (now (area .entry)) n (now (text .entry))
         (now (work .entry)) i r ⌝ }
 {
-    let first = search_area::first_match(file, places, n, area, text, i);
+    let first = search_area::first_match(file, places, area, n, text, i);
     if first.row == NONE {
         // Never on the tables of a build: each byte has a row.
         return 0;
@@ -62,7 +62,7 @@ fn best_at(
     let mut len = first.len;
     let mut best = entry_of(codes_behind(text, work, i + len) + 1, len, row);
     while i + len < text.len() {
-        let longer = search_area::longer_match(file, places, n, area, row, len, text, i);
+        let longer = search_area::longer_match(file, places, area, n, row, len, text, i);
         if longer.row == NONE {
             return best;
         }
@@ -137,14 +137,14 @@ fn longest_at(file: &[u8], places: &[u32], area: &[u32], n: usize, text: &[u8], 
     ensures { λ r. ⌜ NextMatch (now (file .entry)) (now (places .entry)) n (now (area .entry))
         (drop at (now (text .entry))) (r .row) (r .len) ⌝ }
 {
-    let first = search_area::first_match(file, places, n, area, text, at);
+    let first = search_area::first_match(file, places, area, n, text, at);
     if first.row == NONE {
         return Match { row: NONE, len: 0 };
     }
     let mut row = first.row;
     let mut len = first.len;
     while at + len < text.len() {
-        let longer = search_area::longer_match(file, places, n, area, row, len, text, at);
+        let longer = search_area::longer_match(file, places, area, n, row, len, text, at);
         if longer.row == NONE {
             return Match { row: row, len: len };
         }

@@ -82,5 +82,5 @@ pub put-taken : (out : List ℕ) (at : ℕ) (bytes out' : List ℕ) (r : ℕ) �
     → Put out at bytes out' r → take r out' ≡ take at out ++ bytes
 put-taken out at bytes out' r h p =
     let k : length (take at out ++ bytes) ≡ r =
-        length-append (take at out) bytes ∙ omega (arith, length-take-le at out (omega (arith, h)), p .place, h) in
+    length-append (take at out) bytes ∙ omega (arith, length-take-le at out (omega (arith, h)), p .place, h) in
     ap (take r) (p .stored ∙ sets-eq bytes out at h) ∙ take-at (take at out ++ bytes) (drop (at + length bytes) out) r k

@@ -11,10 +11,10 @@ use Rattle.bench_exports.proofs.measured_finds.Statement.{statement}
 use Rattle.bench_exports.proofs.measured_finds.Tie as tie
 
 abbrev Inv-loop : tie.InvT-loop
-Inv-loop file places n area codes out₀ i₀ out i = (i ≤ length codes) × Each (λ (k r : ℕ). Found file places n area (row file places n (getD codes k 0)) r) i out₀ out
+Inv-loop file places area n codes out₀ i₀ out i = (i ≤ length codes) × Each (λ (k r : ℕ). Found file places n area (row file places n (getD codes k 0)) r) i out₀ out
 
 abbrev μ-loop : tie.MeasureT-loop
-μ-loop file places n area codes out₀ i₀ out i = length codes - i
+μ-loop file places area n codes out₀ i₀ out i = length codes - i
 
 loop-holds : tie.Need-loop-holds Inv-loop μ-loop
 loop-holds c = (omega arith, each-none _ _)

@@ -10,10 +10,10 @@ use Rattle.bench_exports.proofs.measured_joins.Statement.{statement}
 use Rattle.bench_exports.proofs.measured_joins.Tie as tie
 
 abbrev Inv-loop : tie.InvT-loop
-Inv-loop file places n area codes others out₀ i₀ out i = (i ≤ length codes) × Each (λ (k r : ℕ). Joined file places n area (getD codes k 0) (getD others k 0) r) i out₀ out
+Inv-loop file places area n codes others out₀ i₀ out i = (i ≤ length codes) × Each (λ (k r : ℕ). Joined file places n area (getD codes k 0) (getD others k 0) r) i out₀ out
 
 abbrev μ-loop : tie.MeasureT-loop
-μ-loop file places n area codes others out₀ i₀ out i = length codes - i
+μ-loop file places area n codes others out₀ i₀ out i = length codes - i
 
 loop-holds : tie.Need-loop-holds Inv-loop μ-loop
 loop-holds c = (omega arith, each-none _ _)

@@ -14,11 +14,11 @@ use Rattle.forest.proofs.descend.Statement.{statement}
 use Rattle.forest.proofs.descend.Tie as tie
 
 abbrev Inv-loop : tie.InvT-loop
-Inv-loop file places n area from len text at best₀ end₀ best end =
+Inv-loop file places area n from len text at best₀ end₀ best end =
     (at ≤ end) × ((end ≤ length text) × ((best < n) × Descending (row file places n) n area from len (drop at text) best (len + (end - at)) (end - at)))
 
 abbrev μ-loop : tie.MeasureT-loop
-μ-loop file places n area from len text at best₀ end₀ best end = length text - end
+μ-loop file places area n from len text at best₀ end₀ best end = length text - end
 
 -- no more bytes are used than the text has from the place on
 inside : (t : List ℕ) (k i : ℕ) → k ≤ i → i ≤ length t → i - k ≤ length (drop k t)

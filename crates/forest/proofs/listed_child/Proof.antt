@@ -15,10 +15,10 @@ use Rattle.forest.proofs.listed_child.Statement.{statement}
 use Rattle.forest.proofs.listed_child.Tie as tie
 
 abbrev Inv-loop : tie.InvT-loop
-Inv-loop file places n area first p len text at w₀ left₀ w left = (left ≤ n) × ((left ≡ 0 → n ≡ 0) × Search (row file places n) n area p len (drop at text) w left)
+Inv-loop file places area n first p len text at w₀ left₀ w left = (left ≤ n) × ((left ≡ 0 → n ≡ 0) × Search (row file places n) n area p len (drop at text) w left)
 
 abbrev μ-loop : tie.MeasureT-loop
-μ-loop file places n area first p len text at w₀ left₀ w left = left
+μ-loop file places area n first p len text at w₀ left₀ w left = left
 
 -- steps are left where there is a row
 some : (left n i : ℕ) → (left ≡ 0 → n ≡ 0) → i < n → 0 < left

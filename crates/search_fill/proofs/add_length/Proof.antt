@@ -10,10 +10,10 @@ use Rattle.search_fill.proofs.add_length.Statement.{statement}
 use Rattle.search_fill.proofs.add_length.Tie as tie
 
 abbrev Inv-loop : tie.InvT-loop
-Inv-loop file places n area₀ len c₀ area c = (c ≤ n) × RowsIn file places n area₀ (len * 4096) area (len * 4096 + c)
+Inv-loop file places area₀ n len c₀ area c = (c ≤ n) × RowsIn file places n area₀ (len * 4096) area (len * 4096 + c)
 
 abbrev μ-loop : tie.MeasureT-loop
-μ-loop file places n area₀ len c₀ area c = n - c
+μ-loop file places area₀ n len c₀ area c = n - c
 
 loop-holds : tie.Need-loop-holds Inv-loop μ-loop
 loop-holds c = (omega arith, rows-start _ _ _ _ _ _ (omega arith))

@@ -11,10 +11,10 @@ use Rattle.search_fill.proofs.fill_area.Statement.{statement}
 use Rattle.search_fill.proofs.fill_area.Tie as tie
 
 abbrev Inv-loop : tie.InvT-loop
-Inv-loop file places n area₀ len₀ area len = (1 ≤ len) × ((len ≤ 65) × RowsIn file places n area₀ 4096 area (len * 4096))
+Inv-loop file places area₀ n len₀ area len = (1 ≤ len) × ((len ≤ 65) × RowsIn file places n area₀ 4096 area (len * 4096))
 
 abbrev μ-loop : tie.MeasureT-loop
-μ-loop file places n area₀ len₀ area len = 65 - len
+μ-loop file places area₀ n len₀ area len = 65 - len
 
 empty-requires : tie.Need-empty-requires Inv-loop μ-loop
 empty-requires c κs = search needs

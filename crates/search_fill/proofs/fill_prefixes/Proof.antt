@@ -7,10 +7,10 @@ use Rattle.search_fill.proofs.fill_prefixes.Statement.{statement}
 use Rattle.search_fill.proofs.fill_prefixes.Tie as tie
 
 abbrev Inv-loop : tie.InvT-loop
-Inv-loop file places n area prefixes₀ c₀ prefixes c = (c ≤ n) × Prefixed file places n area prefixes₀ c prefixes
+Inv-loop file places prefixes₀ area n c₀ prefixes c = (c ≤ n) × Prefixed file places n area prefixes₀ c prefixes
 
 abbrev μ-loop : tie.MeasureT-loop
-μ-loop file places n area prefixes₀ c₀ prefixes c = n - c
+μ-loop file places prefixes₀ area n c₀ prefixes c = n - c
 
 loop-holds : tie.Need-loop-holds Inv-loop μ-loop
 loop-holds c = (omega arith, prefixed-none _ _ _ _ _)

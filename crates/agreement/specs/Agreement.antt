@@ -1,4 +1,4 @@
--- What the sender and the counters say of one text, and what they leave. Assumes nothing.
+-- What the sender and the counters say of one text, and what they leave.
 use mathlib.Core.Path.{_≡_}
 use mathlib.Core.Option.{Option, none, some}
 use mathlib.Core.List.{List, _++_}

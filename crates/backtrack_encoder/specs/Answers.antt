@@ -1,4 +1,4 @@
--- What sending and counting by backtracking leave and answer. Assumes nothing.
+-- What sending and counting by backtracking leave and answer.
 use mathlib.Core.Path.{_≡_}
 use mathlib.Core.List.{List, _++_}
 use Prim.Native.Nat.{ℕ, _≤_, _<_}

@@ -1,4 +1,4 @@
--- The encoder over tables, and the state of the definition that it shows. Assumes nothing.
+-- The encoder over tables, and the state of the definition that it shows.
 use mathlib.Core.Path.{_≡_}
 use mathlib.Core.List.{List, [], _∷_}
 use mathlib.Core.Logic.{_⊎_}

@@ -1,5 +1,5 @@
 -- What the functions of one step leave: on tables in form an encoder that may be used, and on what a build left the
--- definition's state. Assumes nothing.
+-- definition's state.
 use mathlib.Core.Path.{_≡_}
 use mathlib.Core.List.{List, _∷_}
 use mathlib.Core.Logic.{_⊎_}

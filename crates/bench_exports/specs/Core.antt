@@ -1,4 +1,4 @@
--- What typing over columns and the loop over pieces require and leave. Assumes nothing.
+-- What typing over columns and the loop over pieces require and leave.
 use mathlib.Core.Path.{_≡_}
 use mathlib.Core.List.{List}
 use mathlib.Core.Bool.{true}

@@ -1,4 +1,4 @@
--- What the loops over lookups require and leave. Assumes nothing.
+-- What the loops over lookups require and leave.
 use mathlib.Core.Path.{_≡_}
 use mathlib.Core.List.{List}
 use mathlib.Core.Bool.{Bool, cond}

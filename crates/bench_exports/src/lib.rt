@@ -43,7 +43,7 @@ fn pair_number(
     requires { ⌜ n ≤ 4096 ⌝ }
     ensures { λ r. ⌜ PairNumber (pairLent file places lefts rights area) n x y r ⌝ }
 {
-    if pair_check::is_valid_pair_below(file, places, lefts, rights, area, n, n as u32, x, y) {
+    if pair_check::is_valid_pair_by_parts(file, places, lefts, rights, area, n, n as u32, x, y) {
         return 1;
     }
     0

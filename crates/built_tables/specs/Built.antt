@@ -1,4 +1,4 @@
--- What an accepting build leaves in the tables and in the search area. Assumes nothing.
+-- What an accepting build leaves in the tables and in the search area.
 use mathlib.Core.Path.{_≡_}
 use mathlib.Core.List.{List}
 use Prim.Native.Nat.{ℕ, _≤_, _<_}

@@ -27,7 +27,7 @@ pub fn is_valid_token_pair(
     if n <= token2 as usize {
         return PairAnswer::Refused(Cause::UnknownCode(1));
     }
-    PairAnswer::Passes(pair_check::is_valid_pair_below(
+    PairAnswer::Passes(pair_check::is_valid_pair_by_parts(
         file,
         places,
         lefts,

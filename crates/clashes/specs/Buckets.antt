@@ -1,5 +1,5 @@
 -- The arrangement of the scratch: 4,096 heads of buckets, then the link of each row, then the hash of each row.
--- A row stands in the bucket of its hash modulo 4,096. A head and a link are a row, or none. Assumes nothing.
+-- A row stands in the bucket of its hash modulo 4,096. A head and a link are a row, or none.
 use mathlib.Core.List.{List, _++_}
 use mathlib.Core.Bool.{Bool, true, false, _||_}
 use Prim.Native.Nat.{ℕ, zero, suc, _+_, _%_}

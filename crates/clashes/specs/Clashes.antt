@@ -1,4 +1,4 @@
--- Cause 5 of document 01: "a row with the hash of an earlier row", place "lowest such row". Assumes nothing.
+-- Cause 5 of document 01: "a row with the hash of an earlier row", place "lowest such row".
 use mathlib.Core.Path.{_≡_}
 use mathlib.Core.List.{List}
 use mathlib.Core.Bool.{Bool, true, false, _||_}

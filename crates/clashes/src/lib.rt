@@ -11,9 +11,10 @@ use placed_rows::NONE;
 use placed_rows::bytes_of;
 use placed_rows::wide;
 
-// The scratch holds the heads of the buckets, then the link of each row, then the hash of each row.
+// How many buckets there are: the scratch begins with the head of each.
 const BUCKETS: usize = 4096;
 
+// Where the link of each row stands behind them, and then the hash of each row.
 const LINKS: usize = 4096;
 
 const HASHES: usize = 8192;

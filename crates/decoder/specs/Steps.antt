@@ -1,4 +1,4 @@
--- What the functions under decoding require and ensure. Assumes nothing.
+-- What the functions under decoding require and ensure.
 use mathlib.Core.Path.{_≡_}
 use mathlib.Core.List.{List}
 use Prim.Native.Nat.{ℕ, _≤_, _<_}

@@ -1,4 +1,4 @@
--- The end code of typed bytes, over tables: what may be read, and what is answered. Assumes nothing.
+-- The end code of typed bytes, over tables: what may be read, and what is answered.
 use mathlib.Core.Path.{_≡_}
 use mathlib.Core.List.{List}
 use mathlib.Core.Bool.{Bool}

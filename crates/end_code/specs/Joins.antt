@@ -1,5 +1,5 @@
 -- The first join of a row with the code beside which it is typed, over tables: what may be read, and what is
--- answered. Assumes nothing.
+-- answered.
 use mathlib.Core.Path.{_≡_}
 use mathlib.Core.Logic.{_⊎_}
 use mathlib.Core.List.{List}

@@ -1,4 +1,4 @@
--- What may be read of the tables. Assumes nothing.
+-- What may be read of the tables.
 use mathlib.Core.List.{List}
 use Prim.Native.Nat.{ℕ, _≤_, _<_}
 use lib.ListN.{length, getD}

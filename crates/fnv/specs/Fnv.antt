@@ -1,4 +1,4 @@
--- FNV-1a at 64 bits and the hash of a row: document 01, "Building", "Hash of a row". Assumes nothing.
+-- FNV-1a at 64 bits and the hash of a row: document 01, "Building", "Hash of a row".
 use Prim.Native.Nat.{ℕ, zero, suc, _*_, _/_, _%_, _^_}
 use mathlib.Core.List.{List, [], _∷_, _++_}
 use lib.ListN.{length}

@@ -1,4 +1,4 @@
--- How the rows' part is filled: it is cleared, and then rows are inserted by rising length. Assumes nothing.
+-- How the rows' part is filled: it is cleared, and then rows are inserted by rising length.
 use mathlib.Core.Path.{_≡_}
 use mathlib.Core.List.{List, _++_}
 use mathlib.Core.Bool.{Bool, true, false, _||_}

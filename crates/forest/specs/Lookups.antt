@@ -1,5 +1,5 @@
 -- What a lookup in the rows' part answers: on any contents a bounded answer, and where the area lists the rows of a
--- set S, the true one. Assumes nothing.
+-- set S, the true one.
 use mathlib.Core.Path.{_≡_}
 use mathlib.Core.List.{List, [], _∷_, _++_}
 use mathlib.Core.Logic.{_⊎_}

@@ -1,7 +1,7 @@
 -- The arrangement of the front of the search area: 4,352 heads of buckets, then 4,096 numbers of marks, one for
 -- each row, then 4,096 links. A bucket has the rows of one hash of prefix and next byte. A head or a link holds a
 -- word, which packs a row, its tag and by how much it is longer than its prefix, or none. A prefix and a next byte
--- that are not marked have no row. Assumes nothing.
+-- that are not marked have no row.
 use mathlib.Core.Path.{_≡_}
 use mathlib.Core.List.{List, [], _∷_}
 use mathlib.Core.Logic.{_⊎_}

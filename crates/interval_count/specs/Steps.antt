@@ -1,5 +1,4 @@
--- The functions under the interval count: where the prepared tables take over, and the count of a piece. Assumes
--- nothing.
+-- The functions under the interval count: where the prepared tables take over, and the count of a piece.
 use mathlib.Core.Path.{_≡_}
 use mathlib.Core.List.{List}
 use mathlib.Core.Bool.{Bool, true}

@@ -1,5 +1,5 @@
 -- The functions under preparation: the tree of the prefixes as a table of last codes gives it, over any table of
--- rows. Assumes nothing.
+-- rows.
 use mathlib.Core.Path.{_≡_}
 use mathlib.Core.List.{List}
 use Prim.Native.Nat.{ℕ, zero, suc, _+_, _-_, _≤_, _<_}

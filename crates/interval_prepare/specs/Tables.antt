@@ -1,4 +1,4 @@
--- Interval tables of a text: what preparation leaves in them, and whether they are in form. Assumes nothing.
+-- Interval tables of a text: what preparation leaves in them, and whether they are in form.
 use mathlib.Core.Path.{_≡_}
 use mathlib.Core.List.{List}
 use mathlib.Core.Bool.{Bool, _&&_}

@@ -1,6 +1,6 @@
 -- A set of keys in a run of numbers, two bits of one number for each key: key k is marked where bits k / 32 % 32 and
 -- k % 32 of number base + k / 1024 are clear. The two may be one bit, and other keys may have them too: a key that is
--- not marked is not in the set. A run of numbers that are all none has no key marked. Assumes nothing.
+-- not marked is not in the set. A run of numbers that are all none has no key marked.
 use mathlib.Core.Path.{_≡_}
 use mathlib.Core.List.{List}
 use mathlib.Core.Bool.{Bool, true, not, _&&_}

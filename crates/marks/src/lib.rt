@@ -1,5 +1,5 @@
-// A set of keys, two bits of one number for each: where both are clear the key is marked. A key that is not marked
-// needs no look-up.
+// A Bloom filter in the search area: two bits of one number for each key, and where both are clear the key is marked. A
+// key that is not marked needs no look-up.
 ghost use mathlib.Core.Path.{_≡_};
 ghost use Prim.Native.Nat.{_+_, _/_, _<_, _≤_};
 ghost use lib.ListN.{length};

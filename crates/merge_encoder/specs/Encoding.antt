@@ -1,4 +1,4 @@
--- The merge encoder over tables: what it may read and write, and what it answers. Assumes nothing.
+-- The merge encoder over tables: what it may read and write, and what it answers.
 use mathlib.Core.Path.{_≡_}
 use mathlib.Core.List.{List, _++_}
 use Prim.Native.Nat.{ℕ, _≤_, _<_}

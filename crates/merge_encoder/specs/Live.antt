@@ -1,4 +1,4 @@
--- The codes that are left stand at the live places, which are the set bits of a bit set. Assumes nothing.
+-- The codes that are left stand at the live places, which are the set bits of a bit set.
 use mathlib.Core.Path.{_≡_}
 use mathlib.Core.List.{List, [], _∷_}
 use mathlib.Core.Bool.{Bool, true, false}

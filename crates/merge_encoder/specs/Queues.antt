@@ -1,6 +1,6 @@
 -- A queue for each row, of the places whose join is the row, the newest first. An entry is the number of the next
 -- older one times 4,096, and a place. Entry 0 ends a queue. An entry is written once, so what it leads to does not
--- change. Assumes nothing.
+-- change.
 use mathlib.Core.Path.{_≡_}
 use mathlib.Core.List.{List}
 use Prim.Native.Nat.{ℕ, zero, suc, _+_, _-_, _/_, _%_, _≤_, _<_}

@@ -1,4 +1,4 @@
--- What the steps of the merge encoder answer. Assumes nothing.
+-- What the steps of the merge encoder answer.
 use mathlib.Core.Path.{_≡_}
 use mathlib.Core.Logic.{_⊎_}
 use mathlib.Core.List.{List, [], _∷_, _++_}

@@ -1,4 +1,4 @@
--- The one number that an exported call returns, and what it says of the call's answer. Assumes nothing.
+-- The one number that an exported call returns, and what it says of the call's answer.
 use mathlib.Core.Path.{_≡_}
 use Prim.Native.Nat.{ℕ, _+_, _*_, _^_, _-_, min}
 use Rattle.causes.specs.Causes.{Refusal}

@@ -1,5 +1,4 @@
 -- The pair check over tables: what it may read, and what the tables must say for its answer to be the definition's.
--- Assumes nothing.
 use mathlib.Core.Path.{_≡_}
 use mathlib.Core.List.{List, [], _++_}
 use mathlib.Core.Logic.{_⊎_}

@@ -188,7 +188,7 @@ fn is_undone_first(left: u32, right: u32, part: u32) -> bool
 }
 
 // The pair check over the rows below `limit`, for two of them.
-pub fn is_valid_pair_below(
+pub fn is_valid_pair_by_parts(
     file: &[u8],
     places: &[u32],
     lefts: &[u32],
@@ -295,5 +295,5 @@ pub fn is_valid_pair(
     if !may_meet(file, places, area, n, token1, token2) {
         return true;
     }
-    is_valid_pair_below(file, places, lefts, rights, area, n, limit, token1, token2)
+    is_valid_pair_by_parts(file, places, lefts, rights, area, n, limit, token1, token2)
 }

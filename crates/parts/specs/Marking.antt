@@ -1,4 +1,4 @@
--- The parts of one row are written, and the marks of pairs and seams with them. Assumes nothing.
+-- The parts of one row are written, and the marks of pairs and seams with them.
 use mathlib.Core.Path.{_≡_}
 use mathlib.Core.List.{List, []}
 use mathlib.Core.Bool.{true}

@@ -1,4 +1,4 @@
--- The parts of the rows of a phrase file, as build finds them over its tables. Assumes nothing.
+-- The parts of the rows of a phrase file, as build finds them over its tables.
 use mathlib.Core.Path.{_≡_}
 use mathlib.Core.Logic.{_⊎_}
 use mathlib.Core.List.{List, [], _++_}

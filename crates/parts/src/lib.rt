@@ -44,7 +44,7 @@ fn right_part(
     if w <= right {
         return NONE;
     }
-    if pair_check::is_valid_pair_below(file, places, lefts, rights, area, n, w, left, right) {
+    if pair_check::is_valid_pair_by_parts(file, places, lefts, rights, area, n, w, left, right) {
         return right;
     }
     NONE
@@ -99,12 +99,13 @@ fn empty_pairs(area: &mut [u32])
     }
 }
 
-// A number of two hints with row w in a half of it, the lower one where `half` is 0, unless another row is named there.
-fn with_row(number: u32, half: usize, w: usize) -> u32
+// A number of two hints with row w as one of them, the lower where `which` is 0, unless another row is named there.
+// Nothing is promised of it: a wrong hint costs time, and no answer depends on it.
+fn with_row(number: u32, which: usize, w: usize) -> u32
     requires { ⌜ w < 65535 ⌝ }
 {
     let less = 65535 - w as u32;
-    if half == 0 {
+    if which == 0 {
         if number % 65536 == 65535 {
             return number - less;
         }

@@ -1,5 +1,5 @@
 -- The phrase file of document 01: per row a two-byte mark hex C7 51, one length byte 1 to 64, then that many bytes. A
--- file is a list of octets. Assumes nothing.
+-- file is a list of octets.
 use mathlib.Core.List.{List, [], _∷_, map}
 use mathlib.Core.Bool.{Bool, true, false, cond, _&&_}
 use Prim.Native.Nat.{ℕ, zero, suc, _+_}

@@ -1,4 +1,4 @@
--- What the functions over a phrase file require and ensure, where it is more than one equation. Assumes nothing.
+-- What the functions over a phrase file require and ensure, where it is more than one equation.
 use mathlib.Core.Path.{_≡_}
 use mathlib.Core.List.{List}
 use mathlib.Core.Bool.{Bool, false}

@@ -1,5 +1,5 @@
 // `phrases type FILE`: standard input as a person types it. The typing calls over columns are used: those over a
-// slice of records are the same calls, and each function around them would need a long proof by hand.
+// slice of records are the same calls, and a function around them is not covered by the borrow checker.
 use crate::bursts::say_bursts;
 use crate::bursts::say_fields;
 use crate::bursts::say_many;

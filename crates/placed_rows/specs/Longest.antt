@@ -1,5 +1,5 @@
 -- The longest row that begins a text, and the prefix of a row. Rows are a function R from numbers to bytes, with no
--- bytes at none; K says which numbers are rows. Assumes nothing.
+-- bytes at none; K says which numbers are rows.
 use mathlib.Core.Path.{_≡_}
 use mathlib.Core.List.{List}
 use mathlib.Core.Logic.{_⊎_}

@@ -1,4 +1,4 @@
--- The rows of a phrase file, as they are read through the table of places. Assumes nothing.
+-- The rows of a phrase file, as they are read through the table of places.
 use mathlib.Core.List.{List, []}
 use mathlib.Core.Bool.{true, false}
 use Prim.Native.Nat.{ℕ, _+_, _≤_, _<_}

@@ -1,4 +1,4 @@
--- Texts that begin or end others, and texts read from the front or from the back. Assumes nothing.
+-- Texts that begin or end others, and texts read from the front or from the back.
 use mathlib.Core.Path.{_≡_}
 use mathlib.Core.List.{List, [], _∷_, _++_, reverse}
 use mathlib.Core.Bool.{Bool, true, false, _&&_}

@@ -1,5 +1,5 @@
 -- What the lookups answer: on any contents of the search area a bounded answer, and the true one where it finds every
--- row. Assumes nothing.
+-- row.
 use mathlib.Core.Path.{_≡_}
 use mathlib.Core.List.{List, _++_}
 use mathlib.Core.Logic.{_⊎_}

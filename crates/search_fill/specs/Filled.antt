@@ -1,4 +1,4 @@
--- What fill leaves: a search area that finds every row, and the prefixes. Assumes nothing.
+-- What fill leaves: a search area that finds every row, and the prefixes.
 use mathlib.Core.Path.{_≡_}
 use mathlib.Core.List.{List}
 use Prim.Native.Nat.{ℕ, _<_}

@@ -1,4 +1,4 @@
--- The steps of fill: the front of the area is emptied, and then the rows go in by rising length. Assumes nothing.
+-- The steps of fill: the front of the area is emptied, and then the rows go in by rising length.
 use mathlib.Core.Path.{_≡_}
 use mathlib.Core.List.{List, _++_}
 use mathlib.Core.Bool.{Bool, _&&_}

@@ -1,4 +1,4 @@
--- What the shortest and the greedy encoder need, and what they leave in the output. Assumes nothing.
+-- What the shortest and the greedy encoder need, and what they leave in the output.
 use mathlib.Core.Path.{_≡_}
 use mathlib.Core.List.{List, _++_}
 use Prim.Native.Nat.{ℕ, _≤_, _<_}

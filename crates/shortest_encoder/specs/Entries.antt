@@ -1,5 +1,5 @@
 -- The entries of the work buffer: for each place of a text the count of the shortest codes from there on, and the
--- first of them with its length. Assumes nothing.
+-- first of them with its length.
 use mathlib.Core.Path.{_≡_}
 use mathlib.Core.List.{List}
 use mathlib.Core.Bool.{true, false}

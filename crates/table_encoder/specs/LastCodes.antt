@@ -1,4 +1,4 @@
--- The last code of each prefix of a text, over tables: what may be read, and what is answered. Assumes nothing.
+-- The last code of each prefix of a text, over tables: what may be read, and what is answered.
 use mathlib.Core.Path.{_≡_}
 use mathlib.Core.List.{List, _++_}
 use Prim.Native.Nat.{ℕ, suc, _≤_, _<_}

@@ -1,4 +1,4 @@
--- The codes of a text by the table of last codes: what may be read and written, and what is answered. Assumes nothing.
+-- The codes of a text by the table of last codes: what may be read and written, and what is answered.
 use mathlib.Core.Path.{_≡_}
 use mathlib.Core.List.{List, _++_}
 use Prim.Native.Nat.{ℕ, _≤_}

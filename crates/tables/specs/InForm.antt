@@ -1,4 +1,4 @@
--- Dictionary tables in form, as document 01 defines it. Assumes nothing.
+-- Dictionary tables in form, as document 01 defines it.
 use mathlib.Core.List.{List, [], _∷_}
 use mathlib.Core.Bool.{Bool, true, false, cond, _&&_, _||_}
 use Prim.Native.Nat.{ℕ, zero, suc, _+_}

@@ -1,5 +1,4 @@
 -- What tables in form give to the functions over them: every entry that they read is an index that they may use.
--- Assumes nothing.
 use mathlib.Core.Path.{_≡_}
 use mathlib.Core.List.{List, []}
 use mathlib.Core.Logic.{_⊎_}

@@ -1,4 +1,4 @@
--- What the functions under the check require and ensure. Assumes nothing.
+-- What the functions under the check require and ensure.
 use mathlib.Core.Path.{_≡_}
 use mathlib.Core.List.{List}
 use mathlib.Core.Bool.{Bool, true}

@@ -1,4 +1,4 @@
--- Bursts of 40 codes. Assumes nothing.
+-- Bursts of 40 codes.
 use Prim.Native.Nat.{ℕ, _+_, _*_, _-_, _/_}
 
 -- how many bursts so many codes take

@@ -1,5 +1,5 @@
 -- What a line of escaped bytes means: \xNN is the byte NN, \t a tab, \n a line end, \\ a backslash; any other byte is
--- itself. Assumes nothing.
+-- itself.
 use mathlib.Core.Path.{_≡_}
 use mathlib.Core.List.{List, [], _∷_, _++_}
 use mathlib.Core.Bool.{cond}

@@ -1,5 +1,5 @@
 -- What the typing calls answer, and what they leave in the head and in the records: document 01, "Typing and
--- intervals". Assumes nothing.
+-- intervals".
 use mathlib.Core.Path.{_≡_}
 use mathlib.Core.Option.{none, some}
 use mathlib.Core.List.{List, _++_}

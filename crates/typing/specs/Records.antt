@@ -1,4 +1,4 @@
--- Typing records as the definitions see them, and their fields as columns. Assumes nothing.
+-- Typing records as the definitions see them, and their fields as columns.
 use mathlib.Core.List.{List, map}
 use Prim.Native.Nat.{ℕ}
 use Rattle.theory.specs.Typing.{Entry}

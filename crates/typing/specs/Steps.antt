@@ -1,5 +1,4 @@
 -- What the steps of a typing call hand over: the records copied into columns, and the columns stored as records.
--- Assumes nothing.
 use mathlib.Core.Path.{_≡_}
 use mathlib.Core.List.{List}
 use mathlib.Core.Bool.{cond}

@@ -1,4 +1,4 @@
--- A whole text typed byte by byte. Assumes nothing.
+-- A whole text typed byte by byte.
 use mathlib.Core.Path.{_≡_}
 use mathlib.Core.List.{List}
 use mathlib.Core.Bool.{true}

@@ -1,5 +1,5 @@
 -- The typing book of document 01: a text, empty at first, that sees the arguments of the calls and the slice's size,
--- nothing else. Assumes nothing.
+-- nothing else.
 use mathlib.Core.Option.{Option, none, some}
 use mathlib.Core.List.{List, [], _∷_, _++_, reverse}
 use Prim.Native.Nat.{ℕ, suc, _-_}

@@ -1,5 +1,5 @@
 -- A list of typing calls over one slice and one head, each with what its contract ensures, and what the typing book
--- says of the list. Assumes nothing.
+-- says of the list.
 use mathlib.Core.Path.{_≡_}
 use mathlib.Core.List.{List, [], _∷_}
 use Prim.Native.Nat.{ℕ, _<_}

@@ -1,4 +1,4 @@
--- Typing over columns: the bytes, codes and counts of the records, each in a buffer of its own. Assumes nothing.
+-- Typing over columns: the bytes, codes and counts of the records, each in a buffer of its own.
 use mathlib.Core.Path.{_≡_}
 use mathlib.Core.Option.{none}
 use mathlib.Core.List.{List, _++_}

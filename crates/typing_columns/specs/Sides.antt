@@ -1,4 +1,4 @@
--- The direction of typing: document 01's AppendableEncoder and its mirror, PrependableEncoder. Assumes nothing.
+-- The direction of typing: document 01's AppendableEncoder and its mirror, PrependableEncoder.
 use mathlib.Core.Bool.{cond}
 use Prim.Native.Nat.{ℕ}
 use lib.Dec.{eqb}

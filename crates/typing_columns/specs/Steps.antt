@@ -1,5 +1,5 @@
 -- What the functions under the calls on columns require and ensure. Records below a length are read, and one is added
--- at a time. Assumes nothing.
+-- at a time.
 use mathlib.Core.Path.{_≡_}
 use mathlib.Core.List.{List, _++_}
 use mathlib.Core.Bool.{Bool, true, cond, _&&_, _||_}

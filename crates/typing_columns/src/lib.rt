@@ -16,7 +16,7 @@ ghost use Rattle.tables.specs.Tables.{lent, pairGiven, pairLent, before, after}
 use causes::Answer;
 use causes::Cause;
 use end_code::end_code_at;
-use pair_check::is_valid_pair_below;
+use pair_check::is_valid_pair_by_parts;
 use placed_rows::wide;
 use tables::Form;
 
@@ -102,10 +102,10 @@ fn passes_beside(
     let limit = n as u32;
     match side {
         Side::Append => {
-            is_valid_pair_below(file, places, lefts, rights, area, n, limit, before, code)
+            is_valid_pair_by_parts(file, places, lefts, rights, area, n, limit, before, code)
         }
         Side::Prepend => {
-            is_valid_pair_below(file, places, lefts, rights, area, n, limit, code, before)
+            is_valid_pair_by_parts(file, places, lefts, rights, area, n, limit, code, before)
         }
     }
 }

@@ -33,14 +33,14 @@ returns-2 c = pair-first _ _ _ _ (formed (c .before)) (c .if1 .taken)
 returns-3 : tie.Need-returns-3
 returns-3 c = pair-second _ _ _ _ (formed (c .before .before)) (c .before .if1 .left) (c .if2 .taken)
 
-cast-is-valid-pair-below : tie.Need-cast-is-valid-pair-below
-cast-is-valid-pair-below c = let f = ready _ _ (formed (c .before .before)) .places-ready .placed .few in omega arith
+cast-is-valid-pair-by-parts : tie.Need-cast-is-valid-pair-by-parts
+cast-is-valid-pair-by-parts c = let f = ready _ _ (formed (c .before .before)) .places-ready .placed .few in omega arith
 
-is-valid-pair-below-requires : tie.Need-is-valid-pair-below-requires
-is-valid-pair-below-requires c κs = pair-ready _ _ _ _ (formed (c .before .before)) (c .before .if1 .left) (c .if2 .left)
+is-valid-pair-by-parts-requires : tie.Need-is-valid-pair-by-parts-requires
+is-valid-pair-by-parts-requires c κs = pair-ready _ _ _ _ (formed (c .before .before)) (c .before .if1 .left) (c .if2 .left)
 
 returns-4 : tie.Need-returns-4
-returns-4 c = pair-made _ _ _ _ (formed (c .before .before .before)) _ (c .before .before .if1 .left) (c .before .if2 .left) (c .is-valid-pair-below .ensures)
+returns-4 c = pair-made _ _ _ _ (formed (c .before .before .before)) _ (c .before .before .if1 .left) (c .before .if2 .left) (c .is-valid-pair-by-parts .ensures)
 
 pub is-valid-token-pair-spec : {M : Type 1} → statement M
 is-valid-token-pair-spec =
@@ -52,6 +52,6 @@ is-valid-token-pair-spec =
     returns
     returns-2
     returns-3
-    cast-is-valid-pair-below
-    is-valid-pair-below-requires
+    cast-is-valid-pair-by-parts
+    is-valid-pair-by-parts-requires
     returns-4)

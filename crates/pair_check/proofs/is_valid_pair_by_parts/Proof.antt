@@ -1,12 +1,12 @@
--- `pair_check::is_valid_pair_below` meets its contract: each turn is one of `Turns`. Assumes nothing.
+-- `pair_check::is_valid_pair_by_parts` meets its contract: each turn is one of `Turns`. Assumes nothing.
 use mathlib.Core.Path.{refl}
 use mathlib.Core.Logic.{inl, inr}
 use Prim.Native.Nat.{_+_}
 use native.Mathlib.Omega.{arith}
 use Rattle.pair_check.proofs.Turns.{Walking, walk-start, walk-joins, walk-fails, walk-ends, walk-left, walk-right, undone-first, undone-later}
 use borrow.Author.Needs.{needs}
-use Rattle.pair_check.proofs.is_valid_pair_below.Statement.{statement}
-use Rattle.pair_check.proofs.is_valid_pair_below.Tie as tie
+use Rattle.pair_check.proofs.is_valid_pair_by_parts.Statement.{statement}
+use Rattle.pair_check.proofs.is_valid_pair_by_parts.Tie as tie
 use Rattle.tables.specs.Tables.{pairTables}
 
 abbrev Inv-loop : tie.InvT-loop
@@ -74,8 +74,8 @@ loop-less-3 c = let j = c .before .before .before .before .before .before .is-jo
 loop-again-3 : tie.Need-loop-again-3 Inv-loop μ-loop
 loop-again-3 c = let j = c .before .before .before .before .before .before .is-joined-before .ensures in let o = undone-later _ _ _ _ (c .before .is-undone-first .ensures) (c .if4 .left) in walk-right _ _ _ _ _ _ _ _ _ (c .before .before .before .before .before .before .before .loop .inv) (j .join) (j .no (c .before .before .before .before .before .if1 .left)) _ _ refl refl (o .1) (inl (o .0)) .1
 
-pub is-valid-pair-below-spec : {M : Type 1} → statement M
-is-valid-pair-below-spec =
+pub is-valid-pair-by-parts-spec : {M : Type 1} → statement M
+is-valid-pair-by-parts-spec =
     tie.close
     (tie.spec
     Inv-loop

@@ -1,4 +1,6 @@
--- Sending and counting by backtracking, step by step, and the count with a limit.
+-- Sending and counting by backtracking: "longest row first; where it doesn't pass with the code before, or its end was
+-- marked dead, its next prefix; where none is left, mark the place dead and take back one code". And the count with a
+-- limit.
 use mathlib.Core.List.{List, [], _∷_, _++_}
 use mathlib.Core.Bool.{Bool, true, false, not, _&&_, _||_}
 use mathlib.Core.Option.{Option, none, some}
@@ -51,7 +53,7 @@ module _ (D : Dictionary) where
     abbrev pub add : ℕ → List ℕ → (ℕ → Bool) → State
     add c K dead = record { stack = c ∷ K; dead = dead; next = rowsAt D (drop (place (c ∷ K)) t) }
 
-    -- a step adds or takes back one code
+    -- "A step adds or takes back one code"
     abbrev pub step : State → State
     step s =
         elim (firstFit (s .stack) (s .dead) (s .next))
@@ -83,15 +85,15 @@ pub data Limited : Type 0 where
   over : Limited
 
 module _ (D : Dictionary) (t : List ℕ) (limit : ℕ) where
-  -- limit + 10, with a limit of 64 bits, saturating
+  -- "limit + 10 (limit of 64 bits, saturating)"
   abbrev pub buffered : ℕ
   buffered = min (limit + 10) (2 ^ 64 - 1)
 
-  -- the final count, or "over" if it passes the limit
+  -- "Over" if "the final count passes the limit; otherwise the count"
   abbrev pub final : ℕ → Limited
   final n = elim (ltb limit n) [ true ↦ over | false ↦ counted n ]
 
-  -- "over" if the running count passes limit + 10 after a step that does not finish the text
+  -- "Over" if "the running count passes limit + 10 .. after a step that doesn't finish the text"
   abbrev pub runLimited : ℕ → State → Limited
   runLimited zero s = final (length (s .stack))
   runLimited (suc k) s = elim (finished D t s) [

@@ -7,13 +7,13 @@ use Prim.Native.Nat.{ℕ, _<_}
 abbrev pub none : ℕ
 none = 4294967295
 
--- file, text and decoded bytes are octets
+-- "file, text and decoded bytes are octets"
 abbrev pub Octets : List ℕ → Type 0
 Octets [] = Unit {0}
 Octets (b ∷ t) = (b < 256) × Octets t
 
 pub record Dictionary : Type 0 where
-  -- n, the count of rows; a row's number is a code
+  -- "n is the count of rows"; a row's number is a code
   pub count : ℕ
   -- the bytes of a row
   pub bytes : ℕ → List ℕ
@@ -26,12 +26,12 @@ pub record Dictionary : Type 0 where
   pub right : ℕ → ℕ
 
 module _ (D : Dictionary) where
-  -- a code list spells its rows' bytes joined
+  -- "A code list is a list of row numbers and spells their rows' bytes joined"
   abbrev pub spell : List ℕ → List ℕ
   spell [] = []
   spell (x ∷ s) = D .bytes x ++ spell s
 
-  -- a code list is a list of row numbers
+  -- "a list of row numbers"
   abbrev pub AllRows : List ℕ → Type 0
   AllRows [] = Unit {0}
   AllRows (u ∷ M) = (u < D .count) × AllRows M

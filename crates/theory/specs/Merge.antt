@@ -1,4 +1,4 @@
--- The merge procedure: any neighbours whose joined bytes are a row are joined, the lowest row first, and of equal
+-- The merge procedure as in the Rust, "any neighbours whose joined bytes are a row": the lowest row first, and of equal
 -- ones the leftmost.
 use mathlib.Core.List.{List, [], _∷_, _++_}
 use mathlib.Core.Bool.{true, false}
@@ -39,7 +39,7 @@ module _ (D : Dictionary) where
   merge zero S = S
   merge (suc k) S = elim (ltb (lowestJoin S) (D .count)) [ true ↦ merge k (joinLeftmost (lowestJoin S) S) | false ↦ S ]
 
-  -- each byte alone
+  -- "beginning with each byte alone"
   abbrev pub byteCodes : List ℕ → List ℕ
   byteCodes [] = []
   byteCodes (b ∷ t) = D .code b ∷ byteCodes t

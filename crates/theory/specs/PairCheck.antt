@@ -12,8 +12,8 @@ use Rattle.theory.specs.Paper.{listed}
 pub data Turn : Type 0 where
   stop undo-left undo-right : Turn
 
--- by whether the left and the right one are long, and whether the left one has the higher row number: undo the part
--- with the higher row number, the right one if both are the same row; where that one is a single byte, the other
+-- by whether the left and the right one are long, and whether the left one has the higher row number: "undo the part
+-- with the higher row number, the right one if both are the same row; where that one is a single byte, undo the other"
 abbrev pub turn-by : Bool → Bool → Bool → Turn
 turn-by false false b = stop
 turn-by false true b = undo-right
@@ -34,8 +34,9 @@ module _ (D : Dictionary) where
   abbrev pub joinedBelow : ℕ → ℕ → ℕ → Bool
   joinedBelow m u v = ltb (join D u v) m
 
-  -- undoing goes on until both are single bytes, for k turns at most. Across the seam no join below the limit m may
-  -- exist; it is what comes before the join last undone: a lower row, or the same row further left
+  -- "go on until both are single bytes", for k turns at most. "Before anything is undone, no join across the seam may
+  -- exist; later none may come before the join last undone (a lower row, or the same row further left)": none below the
+  -- limit m
   abbrev pub walk : (ℕ → ℕ → ℕ → Bool) → ℕ → ℕ → ℕ → ℕ → Bool
   walk across zero u v m = false
   walk across (suc k) u v m = elim (across m u v) [
@@ -55,7 +56,7 @@ module _ (D : Dictionary) where
   abbrev pub passesJoined : ℕ → ℕ → ℕ → Bool
   passesJoined q u v = walk joinedBelow (suc (u + v)) u v q
 
-  -- a code list all of whose neighbours pass: each code with the next
+  -- "all its neighbours pass if each code passes with the next, so a list of none or one always does"
   abbrev pub AllPass : List ℕ → Type 0
   AllPass [] = Unit {0}
   AllPass (u ∷ []) = u < D .count

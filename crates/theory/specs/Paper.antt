@@ -1,5 +1,5 @@
--- The merge procedure as Sennrich et al. 2016 give it: the listed pairs in their order, here that of the row numbers,
--- one pass for each.
+-- The merge procedure. "Definition: Sennrich et al. 2016, with row numbers as the merge order. The paper merges listed
+-- pairs", one pass for each.
 use mathlib.Core.List.{List, [], _∷_}
 use mathlib.Core.Bool.{Bool, true, false, _&&_}
 use Prim.Native.Nat.{ℕ, zero, suc}

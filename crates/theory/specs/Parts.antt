@@ -33,7 +33,7 @@ module _ (D : Dictionary) where
   abbrev pub prefixes : ℕ → List ℕ
   prefixes u = rowsUpTo (length (D .bytes u) - 1) (D .bytes u)
 
-  -- prefix: the longest other row that begins this one, else none
+  -- "Prefix: the longest other row that begins this one, else none"
   unfoldable pub prefix : ℕ → ℕ
   prefix u = firstOr none (prefixes u)
 
@@ -74,7 +74,8 @@ module _ (rows : List (List ℕ)) where
   abbrev pub restOf : List (Option Parts) → ℕ → ℕ → ℕ
   restOf known w c = rowOf (withParts known) (drop (length (bytesOf c)) (bytesOf w))
 
-  -- c and the rest are both numbered below w and pass the pair check over the rows before w
+  -- "The first whose rest is a row, both parts numbered below the row, passing the pair check over the rows before it,
+  -- gives the parts"
   abbrev pub arePartsOf : List (Option Parts) → ℕ → ℕ → Bool
   arePartsOf known w c = ltb c w && (ltb (restOf known w c) w && passes (withParts known) w c (restOf known w c))
 
@@ -83,7 +84,7 @@ module _ (rows : List (List ℕ)) where
   firstParts known w (c ∷ cs) = elim (arePartsOf known w c)
       [ true ↦ some (record { left = c; right = restOf known w c }) | false ↦ firstParts known w cs ]
 
-  -- parts: a one-byte row has itself twice. For a longer row, the rows that begin it are tried, longest first
+  -- "Parts: a one-byte row has itself twice. For a longer row, try the rows that begin it, longest first"
   abbrev pub partsOf : List (Option Parts) → ℕ → Option Parts
   partsOf known w = elim (ltb 1 (length (bytesOf w))) [
     | true ↦ firstParts known w (prefixes (withParts known) w)

@@ -27,7 +27,7 @@ module _ (D : Dictionary) where
   shortestOfTails [] = [] ∷ []
   shortestOfTails (b ∷ t) = bestOf (shortestOfTails t) (rowsAt D (b ∷ t)) ∷ shortestOfTails t
 
-  -- fewest codes; among those the longest first row, then the longest second, and so on
+  -- "fewest codes; among those the longest first row, then the longest second, and so on"
   unfoldable pub shortest : List ℕ → List ℕ
   shortest t = getD (shortestOfTails t) 0 []
 
@@ -37,7 +37,7 @@ module _ (D : Dictionary) where
   LongerFirst (c ∷ L) [] = ⊥
   LongerFirst (c ∷ L) (d ∷ M) = (length (D .bytes d) < length (D .bytes c)) ⊎ ((c ≡ d) × LongerFirst L M)
 
-  -- the longest row at each place
+  -- "the longest row at each place"
   abbrev pub greedyUpTo : ℕ → List ℕ → List ℕ
   greedyUpTo zero t = []
   greedyUpTo (suc k) [] = []

@@ -1,4 +1,4 @@
--- The last code of each prefix of a text, walked from the end.
+-- "the last code of each prefix of the text, then walked from the end"
 use mathlib.Core.List.{List, [], _∷_, _++_}
 use Prim.Native.Nat.{ℕ, zero, suc, _-_}
 use lib.ListN.{length, getD, take}

@@ -37,8 +37,8 @@ module _ (parent : ℕ → ℕ) where
     childrenBelow q zero = 0
     childrenBelow q (suc i) = childrenBelow q i + elim (ltb 0 i && eqb (parent i) q) [ true ↦ size i | false ↦ 0 ]
 
-    -- 0 has number 0; each one and all below it take consecutive numbers, itself first, then its children; k levels
-    -- at most
+    -- "The empty prefix has number 0; each prefix and all below it take consecutive numbers, itself first, then its
+    -- children by rising length"; k levels at most
     abbrev pub numberIn : ℕ → ℕ → ℕ
     numberIn zero i = 0
     numberIn (suc k) zero = 0
@@ -47,12 +47,12 @@ module _ (parent : ℕ → ℕ) where
     abbrev pub number : ℕ → ℕ
     number i = numberIn i i
 
-    -- one past the last of them
+    -- "Its end is one past the last of them"
     abbrev pub end : ℕ → ℕ
     end p = number p + size p
 
 module _ (D : Dictionary) (t : List ℕ) where
-  -- a prefix's parent is the prefix without its last code
+  -- "A prefix's parent is the prefix without its last code"
   unfoldable pub parentOf : ℕ → ℕ
   parentOf i = i - length (D .bytes (lastCode D (take i t)))
 
@@ -63,10 +63,10 @@ module _ (D : Dictionary) (t : List ℕ) where
   unfoldable pub treeEnd : ℕ → ℕ
   treeEnd i = end parentOf (length t) i
 
-  -- its depth is its count of codes
+  -- "its depth its count of codes"
   unfoldable pub depth : ℕ → ℕ
   depth i = length (encode D (take i t))
 
-  -- the count of an interval, the byte at the end not included
+  -- the count of an interval, "the byte at the end not included"
   unfoldable pub intervalCount : ℕ → ℕ → ℕ
   intervalCount from to = length (encode D (take (to - from) (drop from t)))

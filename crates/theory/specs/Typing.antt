@@ -29,8 +29,8 @@ pub record Entry : Type 0 where
   pub count : ℕ
 
 module _ (D : Dictionary) (side : Side) where
-  -- record i of typed bytes: byte i, and the code and the number of codes of the merge procedure for the first i + 1
-  -- bytes
+  -- record i of typed bytes "holds byte i, and the last code and the number of codes of the merge procedure for the
+  -- first i + 1 bytes"
   unfoldable pub codeAt : List ℕ → ℕ → ℕ
   codeAt typed i = endCode side (encode D (inOrder side (take (suc i) typed)))
 
@@ -46,14 +46,14 @@ passesBeside D append before c = passes D (D .count) before c
 passesBeside D prepend before c = passes D (D .count) c before
 
 module _ (D : Dictionary) (side : Side) (bytes codes counts : List ℕ) where
-  -- a record's row ends the bytes up to it
+  -- "its code is a row that ends the bytes up to it"
   abbrev pub rowEnds : ℕ → ℕ → Bool
   rowEnds i c =
       ltb c (D .count) && (leb (length (D .bytes c)) (suc i)
       && equal (drop (suc i - length (D .bytes c)) (take (suc i) bytes)) (inOrder side (D .bytes c)))
 
-  -- either that row reaches the first byte and the count is 1, or the code passes with the code of the record just
-  -- before the row's bytes and the count is one more than that record's
+  -- "either that row reaches the first byte and the count is 1, or the code passes with the code of the record just
+  -- before the row's bytes and the count is one more than that record's"
   abbrev pub follows : ℕ → ℕ → ℕ → Bool
   follows i c k =
       (eqb (length (D .bytes c)) (suc i) && eqb k 1)

@@ -1,1 +1,3 @@
+pub mod Lists
 pub mod Meanings
+pub mod Sheets

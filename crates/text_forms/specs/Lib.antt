@@ -1,2 +1,5 @@
 pub mod Bursts
+pub mod CodeList
 pub mod Escapes
+pub mod Page
+pub mod Sheet

@@ -1,5 +1,8 @@
 // The bytes of a row as the page shows them: valid UTF-8 as it is, but for control characters and numbers that are no
 // characters.
+ghost use Prim.Native.Nat.{_≤_};
+ghost use lib.ListN.{length};
+ghost use Rattle.text_forms.specs.Page.{Kept};
 use words::back;
 use words::put;
 use words::put_all;
@@ -102,20 +105,29 @@ fn hex_digit(value: u8) -> u8 {
 }
 
 // A byte as two hex digits.
-pub(crate) fn put_hex(out: &mut [u8], at: usize, byte: u8) -> usize {
+pub(crate) fn put_hex(out: &mut [u8], at: usize, byte: u8) -> usize
+    requires { ⌜ at ≤ length (now out) ⌝ }
+    ensures { λ r. ⌜ Kept (now (out .entry)) (now (out .exit)) r ⌝ }
+{
     let end = put(out, at, hex_digit(byte / 16));
     put(out, end, hex_digit(byte))
 }
 
 // A byte that is no character by itself.
-fn put_escape(out: &mut [u8], at: usize, byte: u8) -> usize {
+fn put_escape(out: &mut [u8], at: usize, byte: u8) -> usize
+    requires { ⌜ at ≤ length (now out) ⌝ }
+    ensures { λ r. ⌜ Kept (now (out .entry)) (now (out .exit)) r ⌝ }
+{
     let mut end = put_all(out, at, b"<i>\\x");
     end = put_hex(out, end, byte);
     put_all(out, end, b"</i>")
 }
 
 // A byte that begins no longer character.
-fn put_single(out: &mut [u8], at: usize, byte: u8) -> usize {
+fn put_single(out: &mut [u8], at: usize, byte: u8) -> usize
+    requires { ⌜ at ≤ length (now out) ⌝ }
+    ensures { λ r. ⌜ Kept (now (out .entry)) (now (out .exit)) r ⌝ }
+{
     if byte == b'\n' {
         return put_all(out, at, b"<i>&crarr;</i>");
     }
@@ -129,7 +141,10 @@ fn put_single(out: &mut [u8], at: usize, byte: u8) -> usize {
 }
 
 // A printable one.
-fn put_printable(out: &mut [u8], at: usize, byte: u8) -> usize {
+fn put_printable(out: &mut [u8], at: usize, byte: u8) -> usize
+    requires { ⌜ at ≤ length (now out) ⌝ }
+    ensures { λ r. ⌜ Kept (now (out .entry)) (now (out .exit)) r ⌝ }
+{
     if byte == b'&' {
         return put_all(out, at, b"&amp;");
     }
@@ -149,7 +164,10 @@ struct Showing {
 }
 
 // Shows the byte at a place of a row.
-fn put_byte(out: &mut [u8], showing: Showing, row: &[u8], i: usize) -> Showing {
+fn put_byte(out: &mut [u8], showing: Showing, row: &[u8], i: usize) -> Showing
+    requires { ⌜ showing .at ≤ length (now out) ⌝ }
+    ensures { λ r. ⌜ Kept (now (out .entry)) (now (out .exit)) (r .at) ⌝ }
+{
     let at = showing.at;
     let more = showing.more;
     let byte = byte_at(row, i);
@@ -173,7 +191,10 @@ fn put_byte(out: &mut [u8], showing: Showing, row: &[u8], i: usize) -> Showing {
 }
 
 // Shows a row.
-pub(crate) fn put_shown(out: &mut [u8], at: usize, row: &[u8]) -> usize {
+pub(crate) fn put_shown(out: &mut [u8], at: usize, row: &[u8]) -> usize
+    requires { ⌜ at ≤ length (now out) ⌝ }
+    ensures { λ r. ⌜ Kept (now (out .entry)) (now (out .exit)) r ⌝ }
+{
     let mut showing = Showing { at, more: 0 };
     let mut i = 0;
     while i < row.len() {

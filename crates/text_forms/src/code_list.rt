@@ -1,4 +1,7 @@
 // A list of codes as people write it: decimal numbers with spaces, commas or line ends between them.
+ghost use Prim.Native.Nat.{_≤_};
+ghost use lib.ListN.{length};
+ghost use Rattle.text_forms.specs.CodeList.{CodesListed};
 use words::Parsed;
 use words::back;
 use words::front;
@@ -30,7 +33,9 @@ fn is_space(byte: u8) -> bool {
 }
 
 // How many bytes of a text stand before the first that parts numbers, or the first that does not.
-pub fn run(text: &[u8], spaces: bool) -> usize {
+pub fn run(text: &[u8], spaces: bool) -> usize
+    ensures { λ r. ⌜ r ≤ length (now (text .entry)) ⌝ }
+{
     let mut i = 0;
     while i < text.len() {
         if is_space(text[i]) != spaces {
@@ -50,7 +55,9 @@ fn code(value: u64) -> u32 {
 }
 
 // The codes that a text writes, as far as there is room. The line that `encode` ends with ends them too.
-pub fn list_codes(text: &[u8], codes: &mut Codes) -> Listed {
+pub fn list_codes(text: &[u8], codes: &mut Codes) -> Listed
+    ensures { λ r. ⌜ CodesListed (now (text .entry)) r ⌝ }
+{
     let mut at = run(text, true);
     let mut count = 0;
     while count < 4097 {

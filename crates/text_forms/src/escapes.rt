@@ -1,7 +1,8 @@
 // The escapes of the sheet: \xNN is the byte NN (hex), \t a tab, \n a line end, \\ a backslash; any other byte is
 // itself.
 ghost use mathlib.Core.Path.{_≡_};
-ghost use Rattle.text_forms.specs.Escapes.{valueOf, backslashed, firstDigit, secondDigit, stepOf, endOf, Unescaped};
+ghost use Rattle.text_forms.specs.Escapes.{valueOf, backslashed, firstDigit, secondDigit, stepOf, endOf};
+ghost use Rattle.text_forms.specs.Escapes.{Unescaped};
 
 // Where a reader stands: outside an escape, after its backslash, after \x, after \x and the first digit, whose value
 // is held.

@@ -1,8 +1,14 @@
 // The head of the page: constants, a part in each function.
+ghost use Prim.Native.Nat.{_≤_};
+ghost use lib.ListN.{length};
+ghost use Rattle.text_forms.specs.Page.{Kept};
 use words::put_all;
 
 // From the document type to the beginning of the style.
-fn put_opening(out: &mut [u8], at: usize) -> usize {
+fn put_opening(out: &mut [u8], at: usize) -> usize
+    requires { ⌜ at ≤ length (now out) ⌝ }
+    ensures { λ r. ⌜ Kept (now (out .entry)) (now (out .exit)) r ⌝ }
+{
     put_all(
         out,
         at,
@@ -17,7 +23,10 @@ fn put_opening(out: &mut [u8], at: usize) -> usize {
 }
 
 // The style of headings and totals.
-fn put_text_style(out: &mut [u8], at: usize) -> usize {
+fn put_text_style(out: &mut [u8], at: usize) -> usize
+    requires { ⌜ at ≤ length (now out) ⌝ }
+    ensures { λ r. ⌜ Kept (now (out .entry)) (now (out .exit)) r ⌝ }
+{
     put_all(
         out,
         at,
@@ -34,7 +43,10 @@ fn put_text_style(out: &mut [u8], at: usize) -> usize {
 }
 
 // The style of bursts and codes.
-fn put_box_style(out: &mut [u8], at: usize) -> usize {
+fn put_box_style(out: &mut [u8], at: usize) -> usize
+    requires { ⌜ at ≤ length (now out) ⌝ }
+    ensures { λ r. ⌜ Kept (now (out .entry)) (now (out .exit)) r ⌝ }
+{
     put_all(
         out,
         at,
@@ -48,7 +60,10 @@ fn put_box_style(out: &mut [u8], at: usize) -> usize {
 }
 
 // The style of row numbers and marks.
-fn put_mark_style(out: &mut [u8], at: usize) -> usize {
+fn put_mark_style(out: &mut [u8], at: usize) -> usize
+    requires { ⌜ at ≤ length (now out) ⌝ }
+    ensures { λ r. ⌜ Kept (now (out .entry)) (now (out .exit)) r ⌝ }
+{
     put_all(
         out,
         at,
@@ -61,7 +76,10 @@ fn put_mark_style(out: &mut [u8], at: usize) -> usize {
 }
 
 // The first six of twelve colours, which a screen alone shows.
-fn put_colours(out: &mut [u8], at: usize) -> usize {
+fn put_colours(out: &mut [u8], at: usize) -> usize
+    requires { ⌜ at ≤ length (now out) ⌝ }
+    ensures { λ r. ⌜ Kept (now (out .entry)) (now (out .exit)) r ⌝ }
+{
     put_all(
         out,
         at,
@@ -76,7 +94,10 @@ fn put_colours(out: &mut [u8], at: usize) -> usize {
 }
 
 // The other six.
-fn put_more_colours(out: &mut [u8], at: usize) -> usize {
+fn put_more_colours(out: &mut [u8], at: usize) -> usize
+    requires { ⌜ at ≤ length (now out) ⌝ }
+    ensures { λ r. ⌜ Kept (now (out .entry)) (now (out .exit)) r ⌝ }
+{
     put_all(
         out,
         at,
@@ -91,7 +112,10 @@ fn put_more_colours(out: &mut [u8], at: usize) -> usize {
 }
 
 // The style on paper.
-fn put_print_style(out: &mut [u8], at: usize) -> usize {
+fn put_print_style(out: &mut [u8], at: usize) -> usize
+    requires { ⌜ at ≤ length (now out) ⌝ }
+    ensures { λ r. ⌜ Kept (now (out .entry)) (now (out .exit)) r ⌝ }
+{
     put_all(
         out,
         at,
@@ -106,7 +130,10 @@ fn put_print_style(out: &mut [u8], at: usize) -> usize {
 }
 
 // What the page says before the totals.
-fn put_words(out: &mut [u8], at: usize) -> usize {
+fn put_words(out: &mut [u8], at: usize) -> usize
+    requires { ⌜ at ≤ length (now out) ⌝ }
+    ensures { λ r. ⌜ Kept (now (out .entry)) (now (out .exit)) r ⌝ }
+{
     put_all(
         out,
         at,
@@ -122,7 +149,10 @@ fn put_words(out: &mut [u8], at: usize) -> usize {
 }
 
 // The whole head.
-pub(crate) fn put_head(out: &mut [u8], at: usize) -> usize {
+pub(crate) fn put_head(out: &mut [u8], at: usize) -> usize
+    requires { ⌜ at ≤ length (now out) ⌝ }
+    ensures { λ r. ⌜ Kept (now (out .entry)) (now (out .exit)) r ⌝ }
+{
     let mut end = put_opening(out, at);
     end = put_text_style(out, end);
     end = put_box_style(out, end);

@@ -1,5 +1,5 @@
--- Document 01's terms: the dictionary and its parts, the merge procedure, the pair check, the encoders, typing, the tree
--- of intervals.
+-- Document 01's terms: the dictionary and its parts, the merge procedure, the pair check, the encoders, typing, the
+-- tree of intervals.
 pub mod Lists
 pub mod Dictionary
 pub mod Parts

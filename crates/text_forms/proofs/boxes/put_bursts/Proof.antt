@@ -1,4 +1,4 @@
--- The count of codes left falls, and the page keeps its length. Assumes nothing.
+-- The count of codes left falls, and the place stays in the page. Assumes nothing.
 use Prim.Native.Nat.{_≤_, _-_}
 use mathlib.Core.Path.{_≡_}
 use lib.ListN.{length}
@@ -7,7 +7,8 @@ use Rattle.text_forms.proofs.boxes.put_bursts.Statement.{statement}
 use Rattle.text_forms.proofs.boxes.put_bursts.Tie as tie
 
 abbrev Inv-loop : tie.InvT-loop
-Inv-loop out₀ at file places codes end₀ i₀ out end i = (i ≤ length codes) × (length out ≡ length out₀)
+Inv-loop out₀ at file places codes end₀ i₀ out end i =
+    (i ≤ length codes) × (length out ≡ length out₀) × (end ≤ length out₀)
 
 abbrev μ-loop : tie.MeasureT-loop
 μ-loop out₀ at file places codes end₀ i₀ out end i = length codes - i

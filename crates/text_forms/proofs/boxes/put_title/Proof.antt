@@ -1,4 +1,4 @@
--- The count of bytes left falls, and the page keeps its length. Assumes nothing.
+-- The count of bytes left falls, and the place stays in the page. Assumes nothing.
 use Prim.Native.Nat.{_≤_, _-_}
 use mathlib.Core.Path.{_≡_}
 use lib.ListN.{length}
@@ -7,7 +7,8 @@ use Rattle.text_forms.proofs.boxes.put_title.Statement.{statement}
 use Rattle.text_forms.proofs.boxes.put_title.Tie as tie
 
 abbrev Inv-loop : tie.InvT-loop
-Inv-loop out₀ at row end₀ i₀ out end i = (i ≤ length row) × (length out ≡ length out₀)
+Inv-loop out₀ at row end₀ i₀ out end i =
+    (i ≤ length row) × (length out ≡ length out₀) × (end ≤ length out₀)
 
 abbrev μ-loop : tie.MeasureT-loop
 μ-loop out₀ at row end₀ i₀ out end i = length row - i

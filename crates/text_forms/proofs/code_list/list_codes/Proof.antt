@@ -1,11 +1,13 @@
--- The count of entries left falls. Assumes nothing.
+-- The count of entries left falls, and the place stays in the text. Assumes nothing.
 use Prim.Native.Nat.{_≤_, _-_}
+use lib.ListN.{length}
+use Rattle.text_forms.proofs.Lists.{codes-listed, wrong-listed, place-on}
 use borrow.Author.Needs.{needs}
 use Rattle.text_forms.proofs.code_list.list_codes.Statement.{statement}
 use Rattle.text_forms.proofs.code_list.list_codes.Tie as tie
 
 abbrev Inv-loop : tie.InvT-loop
-Inv-loop text codes₀ at₀ count₀ t9 codes at count = count ≤ 4097
+Inv-loop text codes₀ at₀ count₀ t9 codes at count = (count ≤ 4097) × (at ≤ length text)
 
 abbrev μ-loop : tie.MeasureT-loop
 μ-loop text codes₀ at₀ count₀ t9 codes at count = 4097 - count
@@ -32,7 +34,7 @@ is-requires : tie.Need-is-requires Inv-loop μ-loop
 is-requires c κs = search needs
 
 returns : tie.Need-returns Inv-loop μ-loop
-returns c = search needs
+returns c = codes-listed _ _ (c .before .before .before .before .before .loop .inv .0)
 
 number-requires : tie.Need-number-requires Inv-loop μ-loop
 number-requires c κs = search needs
@@ -44,7 +46,9 @@ enum-told : tie.Need-enum-told Inv-loop μ-loop
 enum-told c = search needs
 
 returns-2 : tie.Need-returns-2 Inv-loop μ-loop
-returns-2 c = search needs
+returns-2 c =
+    wrong-listed _ _
+    (c .before .before .before .before .before .before .before .before .before .before .before .loop .inv .1)
 
 code-requires : tie.Need-code-requires Inv-loop μ-loop
 code-requires c κs = search needs
@@ -74,10 +78,17 @@ loop-less : tie.Need-loop-less Inv-loop μ-loop
 loop-less c = search needs
 
 loop-again : tie.Need-loop-again Inv-loop μ-loop
-loop-again c = search needs
+loop-again c =
+    let d = c .before .before .before .before .before .before .before .before .before .before .before .before in (
+      search needs,
+      place-on _ _ _ _ _ (d .before .before .run2 .result) _ _ _
+          (d .before .before .before .before .before .loop .inv .1) (d .before .before .before .back .ensures)
+          (d .before .front .ensures) (c .before .before .before .back2 .ensures) (c .before .run3 .ensures)
+          (c .before .before .wrapping-add-usize .ensures) (c .wrapping-add-usize2 .ensures),
+    )
 
 returns-3 : tie.Need-returns-3 Inv-loop μ-loop
-returns-3 c = search needs
+returns-3 c = codes-listed _ _ (c .before .loop .inv .0)
 
 pub list-codes-spec : {M : Type 1} → statement M
 list-codes-spec =

@@ -1,18 +1,9 @@
-// Numbers of things, and codes as bursts, in words.
+// Codes as bursts, in words.
 use text_forms::bursts;
 use text_forms::left;
+use tool_io::say_many;
 use words::say;
 use words::say_number;
-
-// A number of things: `1 code`, `2 codes`.
-pub(crate) fn say_many(n: usize, name: &[u8]) {
-    say_number(n as u64);
-    say(b" ");
-    say(name);
-    if n != 1 {
-        say(b"s");
-    }
-}
 
 // `8 codes, 1 burst, 32 left in the last`.
 pub(crate) fn say_bursts(count: usize) {

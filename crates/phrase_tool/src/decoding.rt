@@ -1,16 +1,16 @@
 // `phrases decode FILE TEXT`
-use crate::bursts::say_many;
-use crate::files::say_argument;
-use crate::files::say_error_result;
-use crate::refusals::say_cause;
-use crate::refusals::say_cause_result;
-use crate::saying::say_quoted;
 use causes::Answer;
 use causes::Cause;
 use text_forms::Codes;
 use text_forms::Listed;
 use text_forms::list_codes;
 use text_forms::run;
+use tool_io::say_argument;
+use tool_io::say_cause;
+use tool_io::say_cause_result;
+use tool_io::say_error_result;
+use tool_io::say_many;
+use tool_io::say_quoted;
 use words::back;
 use words::front;
 use words::front_numbers;

@@ -1,17 +1,10 @@
 // The commands of the program `phrases`. Each prints its answer to standard output; the last line begins with
 // `result:`.
 mod bursts;
-mod checking;
 mod command_line;
 mod decoding;
-mod files;
-mod loading;
 mod pairs;
-mod refusals;
-mod rows;
-mod saying;
 mod sending;
-mod sheets;
 mod showing;
 mod texts;
 mod typing_command;
@@ -19,13 +12,13 @@ mod usage;
 
 use crate::command_line::word;
 use crate::command_line::word_count;
-use crate::files::say_error_result;
-use crate::loading::Loaded;
-use crate::loading::load;
-use crate::saying::say_quoted;
 use crate::texts::Given;
 use crate::texts::read_numbers;
 use crate::texts::read_text;
+use file_commands::Loaded;
+use file_commands::load;
+use tool_io::say_error_result;
+use tool_io::say_quoted;
 use usage::help;
 use words::front;
 use words::is;
@@ -340,13 +333,13 @@ fn run_other(command: &[u8], line: &[u8], given: usize, input: i32, each: bool) 
 fn run_making(command: &[u8], line: &[u8], given: usize) -> bool {
     if is(command, b"check") {
         if takes(command, b"FILE [FACTOR]", 1, 2, given) {
-            crate::checking::check(word(line, 1), word(line, 2), 2 <= given);
+            file_commands::check(word(line, 1), word(line, 2), 2 <= given);
         }
         return true;
     }
     if is(command, b"sheet") {
         if takes(command, b"SHEET OUT", 2, 2, given) {
-            crate::sheets::make_phrase_file(word(line, 1), word(line, 2));
+            file_commands::make_phrase_file(word(line, 1), word(line, 2));
         }
         return true;
     }

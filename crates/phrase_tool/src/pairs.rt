@@ -1,15 +1,15 @@
 // `phrases why FILE ROW ROW`
-use crate::bursts::say_many;
-use crate::files::say_argument;
-use crate::files::say_error_result;
-use crate::refusals::say_cause;
-use crate::refusals::say_cause_result;
-use crate::refusals::say_row;
-use crate::saying::say_codes;
-use crate::saying::say_quoted;
 use causes::Answer;
 use causes::Cause;
 use causes::PairAnswer;
+use tool_io::say_argument;
+use tool_io::say_cause;
+use tool_io::say_cause_result;
+use tool_io::say_codes;
+use tool_io::say_error_result;
+use tool_io::say_many;
+use tool_io::say_quoted;
+use tool_io::say_row;
 use words::Parsed;
 use words::front;
 use words::front_numbers;

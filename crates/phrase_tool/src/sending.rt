@@ -1,10 +1,10 @@
 // `phrases encode`, `shortest` and `count`: the codes of a text, and their number.
 use crate::bursts::say_bursts;
 use crate::bursts::say_fields;
-use crate::refusals::say_cause_result;
-use crate::refusals::say_refusal;
-use crate::saying::say_codes;
 use causes::Answer;
+use tool_io::say_cause_result;
+use tool_io::say_codes;
+use tool_io::say_refusal;
 use words::front_numbers;
 use words::say;
 

@@ -1,12 +1,12 @@
 // `phrases show FILE TEXT OUT`
 use crate::bursts::say_bursts;
 use crate::bursts::say_fields;
-use crate::files::Written;
-use crate::files::say_failed;
-use crate::files::write_named;
-use crate::saying::say_quoted;
 use crate::sending::Sent;
 use crate::sending::told;
+use tool_io::Written;
+use tool_io::say_failed;
+use tool_io::say_quoted;
+use tool_io::write_named;
 use words::front;
 use words::front_numbers;
 use words::say;

@@ -1,14 +1,14 @@
 // The text of a command: a file or standard input, taken byte for byte.
-use crate::bursts::say_many;
-use crate::files::Source;
-use crate::files::read_given;
-use crate::files::say_argument;
-use crate::files::say_error_result;
-use crate::files::say_failed;
-use crate::refusals::say_cause;
-use crate::refusals::say_cause_result;
-use crate::saying::say_quoted;
 use causes::Cause;
+use tool_io::Source;
+use tool_io::read_given;
+use tool_io::say_argument;
+use tool_io::say_cause;
+use tool_io::say_cause_result;
+use tool_io::say_error_result;
+use tool_io::say_failed;
+use tool_io::say_many;
+use tool_io::say_quoted;
 use words::say;
 
 // A text as it is read. It has room for more than may be sent, so that the length of a longer one can be said.

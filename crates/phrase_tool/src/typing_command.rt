@@ -2,10 +2,10 @@
 // slice of records are the same calls, and a function around them is not covered by the borrow checker.
 use crate::bursts::say_bursts;
 use crate::bursts::say_fields;
-use crate::bursts::say_many;
-use crate::saying::say_byte;
-use crate::saying::say_codes;
 use causes::Answer;
+use tool_io::say_byte;
+use tool_io::say_codes;
+use tool_io::say_many;
 use typing_columns::Side;
 use words::front;
 use words::front_numbers;

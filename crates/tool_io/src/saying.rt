@@ -21,7 +21,7 @@ fn is_plain(byte: u8) -> bool {
 }
 
 // A byte as it is or, where it is not printable, in the sheet's escapes.
-pub(crate) fn say_byte(byte: u8) {
+pub fn say_byte(byte: u8) {
     if is_plain(byte) {
         say(&[byte]);
         return;
@@ -42,7 +42,7 @@ pub(crate) fn say_byte(byte: u8) {
 }
 
 // Bytes in quotes, each as `say_byte` prints it.
-pub(crate) fn say_quoted(text: &[u8]) {
+pub fn say_quoted(text: &[u8]) {
     say(b"'");
     let mut i = 0;
     while i < text.len() {
@@ -53,7 +53,7 @@ pub(crate) fn say_quoted(text: &[u8]) {
 }
 
 // Numbers with a space between them.
-pub(crate) fn say_codes(codes: &[u32]) {
+pub fn say_codes(codes: &[u32]) {
     let mut i = 0;
     while i < codes.len() {
         if i != 0 {
@@ -61,5 +61,15 @@ pub(crate) fn say_codes(codes: &[u32]) {
         }
         say_number(wide(codes[i]));
         i += 1;
+    }
+}
+
+// A number of things: `1 code`, `2 codes`.
+pub fn say_many(n: usize, name: &[u8]) {
+    say_number(n as u64);
+    say(b" ");
+    say(name);
+    if n != 1 {
+        say(b"s");
     }
 }

@@ -1,14 +1,14 @@
 -- The count of rows left falls. Assumes nothing.
 use Prim.Native.Nat.{_≤_, _-_}
 use borrow.Author.Needs.{needs}
-use Rattle.phrase_tool.proofs.rows.row_with.Statement.{statement}
-use Rattle.phrase_tool.proofs.rows.row_with.Tie as tie
+use Rattle.tool_io.proofs.rows.longest.Statement.{statement}
+use Rattle.tool_io.proofs.rows.longest.Tie as tie
 
 abbrev Inv-loop : tie.InvT-loop
-Inv-loop file bytes n at₀ row₀ at row = row ≤ n
+Inv-loop file n most₀ at₀ row₀ most at row = row ≤ n
 
 abbrev μ-loop : tie.MeasureT-loop
-μ-loop file bytes n at₀ row₀ at row = n - row
+μ-loop file n most₀ at₀ row₀ most at row = n - row
 
 num-rows-requires : tie.Need-num-rows-requires Inv-loop μ-loop
 num-rows-requires c κs = search needs
@@ -16,14 +16,8 @@ num-rows-requires c κs = search needs
 loop-holds : tie.Need-loop-holds Inv-loop μ-loop
 loop-holds c = search needs
 
-row-bytes-requires : tie.Need-row-bytes-requires Inv-loop μ-loop
-row-bytes-requires c κs = search needs
-
-is-requires : tie.Need-is-requires Inv-loop μ-loop
-is-requires c κs = search needs
-
-returns : tie.Need-returns Inv-loop μ-loop
-returns c = search needs
+row-length-requires : tie.Need-row-length-requires Inv-loop μ-loop
+row-length-requires c κs = search needs
 
 next-place-requires : tie.Need-next-place-requires Inv-loop μ-loop
 next-place-requires c κs = search needs
@@ -37,22 +31,20 @@ loop-less c = search needs
 loop-again : tie.Need-loop-again Inv-loop μ-loop
 loop-again c = search needs
 
-returns-2 : tie.Need-returns-2 Inv-loop μ-loop
-returns-2 c = search needs
+returns : tie.Need-returns Inv-loop μ-loop
+returns c = search needs
 
-pub row-with-spec : {M : Type 1} → statement M
-row-with-spec =
+pub longest-spec : {M : Type 1} → statement M
+longest-spec =
     tie.close
     (tie.spec
     Inv-loop
     μ-loop
     num-rows-requires
     loop-holds
-    row-bytes-requires
-    is-requires
-    returns
+    row-length-requires
     next-place-requires
     add-row
     loop-less
     loop-again
-    returns-2)
+    returns)

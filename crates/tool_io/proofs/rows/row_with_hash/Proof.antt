@@ -1,8 +1,8 @@
 -- The count of rows left falls. Assumes nothing.
 use Prim.Native.Nat.{_≤_, _-_}
 use borrow.Author.Needs.{needs}
-use Rattle.phrase_tool.proofs.rows.row_with_hash.Statement.{statement}
-use Rattle.phrase_tool.proofs.rows.row_with_hash.Tie as tie
+use Rattle.tool_io.proofs.rows.row_with_hash.Statement.{statement}
+use Rattle.tool_io.proofs.rows.row_with_hash.Tie as tie
 
 abbrev Inv-loop : tie.InvT-loop
 Inv-loop file hash factor n at₀ row₀ at row = row ≤ n

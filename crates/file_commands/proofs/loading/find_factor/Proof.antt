@@ -1,8 +1,8 @@
 -- The count of factors left falls. Assumes nothing.
 use Prim.Native.Nat.{_≤_, _-_}
 use borrow.Author.Needs.{needs}
-use Rattle.phrase_tool.proofs.loading.find_factor.Statement.{statement}
-use Rattle.phrase_tool.proofs.loading.find_factor.Tie as tie
+use Rattle.file_commands.proofs.loading.find_factor.Statement.{statement}
+use Rattle.file_commands.proofs.loading.find_factor.Tie as tie
 
 abbrev Inv-loop : tie.InvT-loop
 Inv-loop file places₀ lefts₀ rights₀ prefixes₀ area₀ factor₀ places lefts rights prefixes area factor = factor ≤ 65

@@ -1,18 +1,18 @@
 // `phrases sheet SHEET OUT`
-use crate::bursts::say_many;
-use crate::files::Source;
-use crate::files::Written;
-use crate::files::read_named;
-use crate::files::say_argument;
-use crate::files::say_error_result;
-use crate::files::say_failed;
-use crate::files::write_named;
 use crate::loading::File;
-use crate::refusals::say_refusal;
-use crate::saying::say_quoted;
 use causes::BuildAnswer;
 use causes::Cause;
 use text_forms::Made;
+use tool_io::Source;
+use tool_io::Written;
+use tool_io::read_named;
+use tool_io::say_argument;
+use tool_io::say_error_result;
+use tool_io::say_failed;
+use tool_io::say_many;
+use tool_io::say_quoted;
+use tool_io::say_refusal;
+use tool_io::write_named;
 use words::front;
 use words::is;
 use words::say;
@@ -134,7 +134,7 @@ fn make_named(name: &[u8], out: &[u8], bytes: &mut Sheet) {
 }
 
 // The command.
-pub(crate) fn make_phrase_file(name: &[u8], out: &[u8]) {
+pub fn make_phrase_file(name: &[u8], out: &[u8]) {
     if is(name, out) {
         say_argument(b"OUT", out);
         say(b"it is the sheet itself; give another name");

@@ -2,8 +2,8 @@
 use Prim.Native.Nat.{_≤_, _-_}
 use lib.ListN.{length}
 use borrow.Author.Needs.{needs}
-use Rattle.phrase_tool.proofs.refusals.letter_below.Statement.{statement}
-use Rattle.phrase_tool.proofs.refusals.letter_below.Tie as tie
+use Rattle.tool_io.proofs.refusals.letter_below.Statement.{statement}
+use Rattle.tool_io.proofs.refusals.letter_below.Tie as tie
 
 abbrev Inv-loop : tie.InvT-loop
 Inv-loop file row bytes i₀ i = i ≤ length bytes

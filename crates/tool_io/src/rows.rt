@@ -43,7 +43,7 @@ pub(crate) fn row_with_hash(file: &[u8], hash: u32, factor: u64) -> usize {
 }
 
 // The length of the longest row.
-pub(crate) fn longest(file: &[u8]) -> usize {
+pub fn longest(file: &[u8]) -> usize {
     let n = phrase_file::num_rows(file);
     let mut most = 0;
     let mut at = 0;

@@ -51,7 +51,7 @@ fn read_all(fd: i32, buffer: &mut [u8]) -> Source {
 }
 
 // All of a file.
-pub(crate) fn read_named(name: &[u8], buffer: &mut [u8]) -> Source {
+pub fn read_named(name: &[u8], buffer: &mut [u8]) -> Source {
     let fd = os::open_read(name);
     if fd < 0 {
         return Source::Failed(os::errno());
@@ -62,7 +62,7 @@ pub(crate) fn read_named(name: &[u8], buffer: &mut [u8]) -> Source {
 }
 
 // All of a text: a file or, for `-`, the standard input, whose descriptor is `input`.
-pub(crate) fn read_given(name: &[u8], input: i32, buffer: &mut [u8]) -> Source {
+pub fn read_given(name: &[u8], input: i32, buffer: &mut [u8]) -> Source {
     if is(name, b"-") {
         return read_all(input, buffer);
     }
@@ -121,7 +121,7 @@ fn write_temporary(fd: i32, temporary: &[u8], name: &[u8], bytes: &[u8]) -> Writ
 }
 
 // Writes a file: whole, or not at all.
-pub(crate) fn write_named(name: &[u8], bytes: &[u8]) -> Written {
+pub fn write_named(name: &[u8], bytes: &[u8]) -> Written {
     if begins(name, b"/dev/") {
         return write_device(name, bytes);
     }
@@ -188,7 +188,7 @@ fn say_rarer_reason(error: i32) {
 }
 
 // The beginning of an error's line: the argument and its value.
-pub(crate) fn say_argument(argument: &[u8], value: &[u8]) {
+pub fn say_argument(argument: &[u8], value: &[u8]) {
     say(b"error: ");
     say(argument);
     say(b" ");
@@ -197,14 +197,14 @@ pub(crate) fn say_argument(argument: &[u8], value: &[u8]) {
 }
 
 // The end of an error: the line for a script.
-pub(crate) fn say_error_result(argument: &[u8]) {
+pub fn say_error_result(argument: &[u8]) {
     say(b"\nresult: error argument=");
     say(argument);
     say(b"\n");
 }
 
 // A file that cannot be read or written: the argument, its value and the reason.
-pub(crate) fn say_failed(argument: &[u8], name: &[u8], error: i32) {
+pub fn say_failed(argument: &[u8], name: &[u8], error: i32) {
     say_argument(argument, name);
     say_reason(error);
     say_error_result(argument);

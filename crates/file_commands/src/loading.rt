@@ -1,11 +1,11 @@
 // From the name of a phrase file to its tables, for all commands.
-use crate::files::Source;
-use crate::files::read_named;
-use crate::files::say_failed;
-use crate::refusals::say_cause_result;
-use crate::refusals::say_refusal;
 use causes::BuildAnswer;
 use causes::Cause;
+use tool_io::Source;
+use tool_io::read_named;
+use tool_io::say_cause_result;
+use tool_io::say_failed;
+use tool_io::say_refusal;
 use words::front;
 use words::say;
 use words::say_number;
@@ -171,7 +171,7 @@ fn build_usual(
 }
 
 // Reads and builds a phrase file, or says why it cannot.
-pub(crate) fn load(
+pub fn load(
     name: &[u8],
     file: &mut File,
     places: &mut Table,

@@ -1,13 +1,13 @@
 // `phrases check FILE [FACTOR]`
-use crate::bursts::say_many;
-use crate::files::say_argument;
-use crate::files::say_error_result;
 use crate::loading::File;
 use crate::loading::Loaded;
 use crate::loading::build;
 use crate::loading::read_file;
-use crate::rows::longest;
 use causes::BuildAnswer;
+use tool_io::longest;
+use tool_io::say_argument;
+use tool_io::say_error_result;
+use tool_io::say_many;
 use words::Parsed;
 use words::front;
 use words::number;
@@ -65,7 +65,7 @@ fn check_with(name: &[u8], factor: u64) {
 }
 
 // The command. The factor is 1 where none is given.
-pub(crate) fn check(name: &[u8], factor: &[u8], is_given: bool) {
+pub fn check(name: &[u8], factor: &[u8], is_given: bool) {
     if !is_given {
         check_with(name, 1);
         return;

@@ -1,9 +1,9 @@
 // Refusals in words: the cause's number and place, what stands there, and what to do.
-use crate::bursts::say_many;
 use crate::rows::bytes_of;
 use crate::rows::row_with;
 use crate::rows::row_with_hash;
 use crate::saying::say_byte;
+use crate::saying::say_many;
 use crate::saying::say_quoted;
 use causes::Cause;
 use words::say;
@@ -15,7 +15,7 @@ fn wide_byte(x: u8) -> u64 {
 }
 
 // The beginning of a refusal's line: `refused (cause 6, place 0): `.
-pub(crate) fn say_cause(cause: Cause) {
+pub fn say_cause(cause: Cause) {
     say(b"refused (cause ");
     say_number(causes::cause_number(cause) as u64);
     say(b", place ");
@@ -24,7 +24,7 @@ pub(crate) fn say_cause(cause: Cause) {
 }
 
 // The end of a refusal: the line for a script.
-pub(crate) fn say_cause_result(cause: Cause) {
+pub fn say_cause_result(cause: Cause) {
     say(b"\nresult: refused cause=");
     say_number(causes::cause_number(cause) as u64);
     say(b" place=");
@@ -33,7 +33,7 @@ pub(crate) fn say_cause_result(cause: Cause) {
 }
 
 // `row 256 'bc'`.
-pub(crate) fn say_row(file: &[u8], row: usize) {
+pub fn say_row(file: &[u8], row: usize) {
     say(b"row ");
     say_number(row as u64);
     say(b" ");
@@ -166,7 +166,7 @@ fn say_no_parts(file: &[u8], row: usize) {
 }
 
 // What is said of a file that build refused with this factor. The lines for people.
-pub(crate) fn say_refusal(cause: Cause, file: &[u8], factor: u64) {
+pub fn say_refusal(cause: Cause, file: &[u8], factor: u64) {
     say_cause(cause);
     match cause {
         Cause::FactorZero => say(b"the factor is 0; take another one, as 1"),

@@ -2,8 +2,8 @@
 use Prim.Native.Nat.{_≤_, _-_}
 use lib.ListN.{length}
 use borrow.Author.Needs.{needs}
-use Rattle.phrase_tool.proofs.saying.say_quoted.Statement.{statement}
-use Rattle.phrase_tool.proofs.saying.say_quoted.Tie as tie
+use Rattle.tool_io.proofs.saying.say_quoted.Statement.{statement}
+use Rattle.tool_io.proofs.saying.say_quoted.Tie as tie
 
 abbrev Inv-loop : tie.InvT-loop
 Inv-loop text i₀ t4 i = i ≤ length text

@@ -1,4 +1,5 @@
 // Files by name: reading a whole one, writing a whole one, and what is said where that fails.
+ghost use Rattle.tool_io.specs.Files.{Read};
 use crate::saying::say_quoted;
 use words::front;
 use words::is;
@@ -34,7 +35,9 @@ pub enum Written {
 
 // All that a descriptor gives. One more read tells the end from an error and from a longer file; a terminal is not
 // asked again.
-fn read_all(fd: i32, buffer: &mut [u8]) -> Source {
+fn read_all(fd: i32, buffer: &mut [u8]) -> Source
+    ensures { λ r. ⌜ Read (now (buffer .entry)) (now (buffer .exit)) r ⌝ }
+{
     let size = io::read_full(fd, buffer);
     if 0 < size && libc::isatty(fd) == 1 {
         return Source::Bytes(size);
@@ -51,7 +54,9 @@ fn read_all(fd: i32, buffer: &mut [u8]) -> Source {
 }
 
 // All of a file.
-pub fn read_named(name: &[u8], buffer: &mut [u8]) -> Source {
+pub fn read_named(name: &[u8], buffer: &mut [u8]) -> Source
+    ensures { λ r. ⌜ Read (now (buffer .entry)) (now (buffer .exit)) r ⌝ }
+{
     let fd = os::open_read(name);
     if fd < 0 {
         return Source::Failed(os::errno());
@@ -62,7 +67,9 @@ pub fn read_named(name: &[u8], buffer: &mut [u8]) -> Source {
 }
 
 // All of a text: a file or, for `-`, the standard input, whose descriptor is `input`.
-pub fn read_given(name: &[u8], input: i32, buffer: &mut [u8]) -> Source {
+pub fn read_given(name: &[u8], input: i32, buffer: &mut [u8]) -> Source
+    ensures { λ r. ⌜ Read (now (buffer .entry)) (now (buffer .exit)) r ⌝ }
+{
     if is(name, b"-") {
         return read_all(input, buffer);
     }

@@ -2,7 +2,7 @@
 .PHONY: help demo lib test edits times census carry carry-check
 
 # See .ci/run.
-export RT_JOBS ?= $(shell echo $$((2 * $$(nproc))))
+export RT_JOBS ?= $(shell echo $$((3 * $$(nproc))))
 
 help:
 	@echo "make demo         the main job: from the season's sheet to a page; proves the library first"

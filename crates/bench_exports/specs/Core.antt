@@ -10,7 +10,7 @@ use Rattle.causes.specs.declared.Answer.{Answer}
 use Rattle.causes.specs.Causes.{answerOf}
 use Rattle.built_tables.specs.Built.{dictionaryOf, Built}
 use Rattle.backtrack_encoder.specs.Encoder.{TextReady}
-use Rattle.interval_prepare.specs.Tables.{Prepared, intervalInForm}
+use Rattle.built_tables.specs.IntervalTables.{Prepared, intervalInForm}
 use Rattle.bench_exports.specs.Measured.{Each}
 
 -- r is the number of an answer that meets a contract

@@ -1,4 +1,6 @@
 // From the name of a phrase file to its tables, for all commands.
+ghost use Prim.Native.Nat.{_≤_};
+ghost use Rattle.file_commands.specs.Loading.{Loads};
 use causes::BuildAnswer;
 use causes::Cause;
 use tool_io::Source;
@@ -122,7 +124,9 @@ fn say_large() {
 }
 
 // Reads a phrase file, or says why it cannot.
-pub(crate) fn read_file(name: &[u8], file: &mut File) -> Loaded {
+pub(crate) fn read_file(name: &[u8], file: &mut File) -> Loaded
+    ensures { λ r. ⌜ Loads r ⌝ }
+{
     match read_named(name, file) {
         Source::Bytes(size) => Loaded::Size(size),
         Source::Over => {
@@ -161,7 +165,10 @@ fn build_usual(
     rights: &mut Table,
     prefixes: &mut Table,
     area: &mut Area,
-) -> Loaded {
+) -> Loaded
+    requires { ⌜ size ≤ 65536 ⌝ }
+    ensures { λ r. ⌜ Loads r ⌝ }
+{
     let file = front(buffer, size);
     let factor = usual_factor(file, places, lefts, rights, prefixes, area);
     match build(file, factor, places, lefts, rights, prefixes, area) {
@@ -179,7 +186,9 @@ pub fn load(
     rights: &mut Table,
     prefixes: &mut Table,
     area: &mut Area,
-) -> Loaded {
+) -> Loaded
+    ensures { λ r. ⌜ Loads r ⌝ }
+{
     match read_file(name, file) {
         Loaded::Size(size) => build_usual(file, size, places, lefts, rights, prefixes, area),
         Loaded::Nothing => Loaded::Nothing,

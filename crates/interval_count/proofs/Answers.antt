@@ -19,7 +19,7 @@ use Rattle.tables.specs.declared.Form.{Form}
 use Rattle.tables.specs.declared.Form.the-variants.{Rows, Out}
 use Rattle.tables.specs.InForm.{formOf}
 use Rattle.tables.proofs.Readiness.{ready}
-use Rattle.interval_prepare.specs.Tables.{intervalInForm}
+use Rattle.built_tables.specs.IntervalTables.{intervalInForm}
 use Rattle.interval_count.specs.Steps.{PieceReady, PieceCounts}
 use Rattle.interval_count.specs.Answers.{intervalRefusal, CoreReady, CoreCounts, Counts}
 use Rattle.interval_count.proofs.Forms.{Entries, entries}

@@ -10,7 +10,7 @@ use borrow.Author.Tests.{lt-ltb, le-ltb, le-leb, lt-leb, leb-true}
 use Rattle.placed_rows.proofs.Beginning.{and-both}
 use Rattle.tables.specs.InForm.{allBelow}
 use Rattle.tables.proofs.Sweeps.{all-more, all-each, all-done, all-fails}
-use Rattle.interval_prepare.specs.Tables.{codesInForm, treeInForm, intervalInForm}
+use Rattle.built_tables.specs.IntervalTables.{codesInForm, treeInForm, intervalInForm}
 
 -- each last code is below n
 abbrev belowN : ℕ → List ℕ → ℕ → Bool

@@ -2,4 +2,3 @@ pub mod Forms
 pub mod Meeting
 pub mod Counting
 pub mod Answers
-pub mod Together

@@ -20,7 +20,7 @@ use Rattle.built_tables.specs.Built.{dictionaryOf}
 use Rattle.backtrack_encoder.specs.declared.BacktrackEncoder.{BacktrackEncoder}
 use Rattle.backtrack_encoder.specs.Encoder.{stackOf, EncoderReady}
 use Rattle.backtrack_encoder.proofs.Stack.{stack-codes}
-use Rattle.interval_prepare.specs.Tables.{Prepared}
+use Rattle.built_tables.specs.IntervalTables.{Prepared}
 use Rattle.interval_count.specs.Steps.{Meets, MeetsIs}
 
 -- the cases of the test

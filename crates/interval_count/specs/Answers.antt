@@ -18,7 +18,7 @@ use Rattle.tables.specs.InForm.{formOf}
 use Rattle.theory.specs.Tree.{intervalCount}
 use Rattle.built_tables.specs.Built.{dictionaryOf, Built}
 use Rattle.backtrack_encoder.specs.Encoder.{TextReady}
-use Rattle.interval_prepare.specs.Tables.{Prepared, intervalInForm}
+use Rattle.built_tables.specs.IntervalTables.{Prepared, intervalInForm}
 
 -- the dictionary tables are out of form, or the interval tables
 abbrev pub anyOut : Form → List ℕ → List ℕ → List ℕ → List ℕ → List ℕ → Bool

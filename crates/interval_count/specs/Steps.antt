@@ -8,7 +8,7 @@ use Rattle.theory.specs.Tree.{intervalCount}
 use Rattle.built_tables.specs.Built.{dictionaryOf, Built}
 use Rattle.backtrack_encoder.specs.declared.BacktrackEncoder.{BacktrackEncoder}
 use Rattle.backtrack_encoder.specs.Encoder.{TextReady}
-use Rattle.interval_prepare.specs.Tables.{Prepared}
+use Rattle.built_tables.specs.IntervalTables.{Prepared}
 use Rattle.tables.specs.Tables.{Tables}
 
 -- the encoder has no more codes than bytes, and its place in the text, behind `from`, is no further than `to`

@@ -2,7 +2,7 @@
 ghost use mathlib.Core.Path.{_≡_};
 ghost use Prim.Native.Nat.{_-_};
 ghost use lib.ListN.{length, getD};
-ghost use Rattle.interval_prepare.specs.Tables.{codesInForm, treeInForm, intervalInForm};
+ghost use Rattle.built_tables.specs.IntervalTables.{codesInForm, treeInForm, intervalInForm};
 ghost use Rattle.interval_count.specs.Steps.{MeetsReady, MeetsIs, BetweenReady, PieceReady, PieceCounts};
 ghost use Rattle.interval_count.specs.Answers.{CoreReady, CoreCounts, Counts};
 ghost use Rattle.tables.specs.Tables.{given, lent, before, after};

@@ -20,7 +20,7 @@ use Rattle.built_tables.proofs.Rows.{lawful-is}
 use Rattle.end_code.specs.Tables.{RowsTo}
 use Rattle.table_encoder.specs.LastCodes.{PrefixesReady, PrefixesAre}
 use Rattle.interval_prepare.specs.Steps.{parentIn, RowTable, SizesReady, SizesAre, TreeReady, TreeIs}
-use Rattle.interval_prepare.specs.Tables.{Prepared, codesInForm, treeInForm, intervalInForm}
+use Rattle.built_tables.specs.IntervalTables.{Prepared, codesInForm, treeInForm, intervalInForm}
 use Rattle.interval_prepare.specs.Answers.{CoreReady, CorePrepares}
 use Rattle.interval_prepare.proofs.Parents.{lower, parent-true, number-same, end-same}
 use Rattle.interval_prepare.proofs.Placing.{depth-bound}

@@ -17,7 +17,7 @@ use Rattle.tables.specs.InForm.{isOut, formOf}
 use Rattle.built_tables.specs.Built.{Built}
 use Rattle.end_code.specs.Tables.{PartsInForm}
 use Rattle.interval_prepare.specs.Steps.{WrittenTo}
-use Rattle.interval_prepare.specs.Tables.{Prepared, intervalInForm}
+use Rattle.built_tables.specs.IntervalTables.{Prepared, intervalInForm}
 
 -- a tree table with less than one number per byte and one more
 abbrev pub shortTree : List ℕ → List ℕ → Bool

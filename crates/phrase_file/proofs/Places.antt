@@ -38,6 +38,10 @@ module _ (file : List ℕ) where
   row-inside : (at : ℕ) → 0 < rowLength file at → at + 3 + rowLength file at ≤ length file
   row-inside at h = let w = row-whole file at h in let e = length-byte file at w in omega (arith, w .inside)
 
+  -- a row is no longer than the file
+  pub length-inside : (at : ℕ) → rowLength file at ≤ length file
+  length-inside at = ⊎-elim (λ e. omega arith) (λ l. let i = row-inside at l in omega arith) (eq-zero-or-pos (rowLength file at))
+
   pub past-end : (at : ℕ) → length file ≤ at → rowLength file at ≡ 0
   past-end at h = ⊎-elim (λ e. e) (λ l. let i = row-inside at l in omega arith) (eq-zero-or-pos (rowLength file at))
 

@@ -1,4 +1,7 @@
 // Rows of a phrase file, read without tables: a refused file has none.
+ghost use mathlib.Core.Path.{_≡_};
+ghost use Prim.Native.Nat.{_≤_, max};
+ghost use lib.ListN.{length};
 use words::is;
 
 // The place after the record at a place.
@@ -42,17 +45,23 @@ pub(crate) fn row_with_hash(file: &[u8], hash: u32, factor: u64) -> usize {
     row
 }
 
-// The length of the longest row.
-pub fn longest(file: &[u8]) -> usize {
+// The greater of two numbers.
+fn greater(a: usize, b: usize) -> usize
+    ensures { λ r. ⌜ r ≡ max a b ⌝ }
+{
+    if a < b { b } else { a }
+}
+
+// The length of the longest row: no more than the file has bytes.
+pub fn longest(file: &[u8]) -> usize
+    ensures { λ r. ⌜ r ≤ length (now (file .entry)) ⌝ }
+{
     let n = phrase_file::num_rows(file);
     let mut most = 0;
     let mut at = 0;
     let mut row = 0;
     while row < n {
-        let size = phrase_file::row_length(file, at);
-        if most < size {
-            most = size;
-        }
+        most = greater(most, phrase_file::row_length(file, at));
         at = next_place(file, at);
         row += 1;
     }

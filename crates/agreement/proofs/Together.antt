@@ -20,10 +20,10 @@ use Rattle.tables.specs.InForm.{isOut, formOf}
 use Rattle.tables.proofs.Readiness.{ready, form-rows}
 use Rattle.theory.specs.Tree.{intervalCount}
 use Rattle.built_tables.specs.Built.{dictionaryOf, Built}
-use Rattle.interval_prepare.specs.Tables.{intervalInForm}
+use Rattle.built_tables.specs.IntervalTables.{intervalInForm}
 use Rattle.interval_prepare.specs.Answers.{tooShort, prepareRefusal, Prepares}
 use Rattle.interval_count.specs.Answers.{intervalRefusal, Counts}
 use Rattle.interval_count.proofs.Answers.{none-refused}
 
 -- where preparation is not refused, the text is short and the dictionary tables are in form
 record NotRefused (T : Tables) (text : List ℕ) : Type 0 where

@@ -1,8 +1,8 @@
 #!/usr/bin/env python3
 """The must-fail edits by public call, and which edit shows each wrong program that document 01 names. An edit of the
-gate says in its first lines what it is an edit of ('call: NAME', or several with commas) and, where it is one of document
-01's, which ('shows: WORDS'). Says what is missing: a public call with fewer than two edits of its program, a wrong
-program that no edit of a program shows."""
+gate says in its first lines what it is an edit of ('call: NAME', or several with commas) and, where it is one of
+document 01's, which ('shows: WORDS'). Says what is missing: a public call with fewer than two edits of its program, a
+wrong program that no edit of a program shows."""
 import glob, sys
 
 CALLS = [

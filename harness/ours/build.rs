@@ -1,5 +1,5 @@
-//! Links the archives that `rt staticlib nahypora` and `rt staticlib bench_exports` write. BPE_STATICLIB names their folder;
-//! without it, it is target/staticlib of this repository.
+//! Links the archives that `rt staticlib nahypora` and `rt staticlib bench_exports` write. BPE_STATICLIB names their
+//! folder; without it, it is target/staticlib of this repository.
 use std::env;
 use std::path::PathBuf;
 

@@ -27,8 +27,8 @@ cd $room
 echo "carrying the calls of typing ..."
 sh "$top/tools/carry/carry.sh" typing copy_out store_all truncate token_count extend push type_text
 echo "carrying the exported calls ..."
-sh "$top/tools/carry/carry_over.sh" nahypora typing typing_calls/bpe_push typing_calls/bpe_extend typing_calls/bpe_truncate \
-    typing_calls/bpe_token_count
+sh "$top/tools/carry/carry_over.sh" nahypora typing typing_calls/bpe_push typing_calls/bpe_extend \
+    typing_calls/bpe_truncate typing_calls/bpe_token_count
 rt fmt > /dev/null
 cd "$top"
 

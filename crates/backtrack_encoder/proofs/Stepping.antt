@@ -6,9 +6,9 @@ use mathlib.Core.Bool.{Bool, true, false}
 use Prim.Native.Nat.{ℕ, zero, suc, _<_}
 use native.Mathlib.Omega.{arith}
 use lib.ListN.{length-drop}
+use Rattle.theory.specs.Lists.{In}
 use Rattle.theory.specs.Dictionary.{Dictionary, none}
 use Rattle.theory.specs.Backtracking.{State, place, firstFit, step, start, isNil, finished, run}
-use Rattle.theory.proofs.RowsAt.{In}
 use Rattle.theory.proofs.Backtracking.{Going, going-start, going-run, step-add, step-back}
 use Rattle.built_tables.specs.Built.{Built, dictionaryOf}
 use Rattle.built_tables.proofs.Rows.{octets, lawful-is, known}

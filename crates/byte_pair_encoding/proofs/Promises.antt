@@ -14,8 +14,7 @@ use Rattle.causes.proofs.Calls.{refused-answer, given-answer}
 use Rattle.phrase_file.specs.Form.{rows}
 use Rattle.theory.specs.Dictionary.{Dictionary, Octets}
 use Rattle.theory.specs.Merge.{encode}
-use Rattle.theory.specs.Backtracking.{Limited, counted, over, start, countTillLimit}
-use Rattle.theory.proofs.CountLimit.{PassedAfter}
+use Rattle.theory.specs.Backtracking.{Limited, counted, over, start, countTillLimit, PassedAfter}
 use Rattle.theory.proofs.Demands.{limited-count-is, limited-count-over, limited-count-over-only}
 use Rattle.tables.specs.Tables.{Tables}
 use Rattle.causes.specs.declared.Answer.{Answer}

@@ -9,11 +9,12 @@ use lib.Seq.{getD-drop}
 use Rattle.placed_rows.specs.Rows.{row}
 use Rattle.placed_rows.specs.Texts.{Begins}
 use Rattle.placed_rows.proofs.Beginning.{begins-length}
+use Rattle.theory.specs.Lists.{In}
 use Rattle.theory.specs.Dictionary.{Dictionary, Octets, KnownText, none}
 use Rattle.theory.specs.Parts.{rowsAt}
 use Rattle.theory.proofs.Lists.{lt-or-ge}
 use Rattle.theory.proofs.PairCheck.{Lawful}
-use Rattle.theory.proofs.RowsAt.{In, different, filled, rows-known, rows-every}
+use Rattle.theory.proofs.RowsAt.{different, filled, rows-known, rows-every}
 use Rattle.theory.proofs.Longest.{rowLength, known-drop, row-begins}
 use Rattle.theory.proofs.ShortestSteps.{behind, behind-drop, chosen, chosen-in, chosen-fewest, chosen-longest, shortest-cons}
 use Rattle.search_area.specs.Answers.{Longer, LongerMatch}

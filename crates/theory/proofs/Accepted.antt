@@ -11,7 +11,7 @@ use lib.ListN.{length, length-append, getD, take, drop, List·getD-append, List�
 use lib.Seq.{getD-append-add, drop-at}
 use lib.Dec.{ltb}
 use borrow.Author.Tests.{ltb-true, lt-ltb, le-ltb}
-use Rattle.theory.specs.Lists.{equal}
+use Rattle.theory.specs.Lists.{equal, In}
 use Rattle.theory.specs.Dictionary.{Dictionary, Octets, KnownText}
 use Rattle.theory.specs.Merge.{byteCodes, rowOf}
 use Rattle.theory.specs.PairCheck.{listedBelow, walk, passes}
@@ -21,7 +21,7 @@ use Rattle.theory.proofs.Merge.{rowBelow-is}
 use Rattle.theory.proofs.Stage.{Laws}
 use Rattle.theory.proofs.PairCheck.{Lawful}
 use Rattle.theory.proofs.Neighbours.{Agree, check-local}
-use Rattle.theory.proofs.RowsAt.{In, rows-in}
+use Rattle.theory.proofs.RowsAt.{rows-in}
 
 find-is : (rs : List (List ℕ)) (b d : List ℕ) → find rs b < length rs → getD rs (find rs b) d ≡ b
 find-is [] b d h = absurd (omega arith)

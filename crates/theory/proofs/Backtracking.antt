@@ -10,7 +10,7 @@ use lib.ListN.{length, length-append, length-drop, take, drop}
 use lib.Seq.{take-at, drop-at}
 use lib.Dec.{eqb}
 use borrow.Author.Tests.{not-true}
-use Rattle.theory.specs.Lists.{lastOr}
+use Rattle.theory.specs.Lists.{lastOr, In}
 use Rattle.theory.specs.Dictionary.{Dictionary, spell, AllRows, KnownText}
 use Rattle.theory.specs.Merge.{encode}
 use Rattle.theory.specs.PairCheck.{passes, AllPass}
@@ -21,7 +21,7 @@ use Rattle.theory.proofs.Stage as St
 use Rattle.theory.proofs.PairCheck.{Lawful}
 use Rattle.theory.proofs.Neighbours.{spell-snoc}
 use Rattle.theory.proofs.Encode.{encode-passes, encode-spells, encode-rows, encode-nil, encode-parts, encode-append}
-use Rattle.theory.proofs.RowsAt.{different, In, Beginning, rows-in, rows-every, rows-some, filled}
+use Rattle.theory.proofs.RowsAt.{different, Beginning, rows-in, rows-every, rows-some, filled}
 use Rattle.theory.proofs.Candidates.{in-append, in-mid, fits, First, first-some, first-none, Chain, chain-after, chain-rows}
 use Rattle.theory.proofs.Places.{mark-other, AllLive, alive-mark, stepsLeft, stepsLeft-le, added-falls, taken-falls}
 

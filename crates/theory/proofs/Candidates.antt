@@ -7,11 +7,12 @@ use mathlib.Core.Bool.{Bool, true, false, not, _&&_}
 use Prim.Native.Nat.{ℕ, _-_}
 use native.Mathlib.Omega.{arith}
 use lib.ListN.{length}
+use Rattle.theory.specs.Lists.{In}
 use Rattle.theory.specs.Dictionary.{Dictionary}
 use Rattle.theory.specs.Parts.{rowsAt, prefixes}
 use Rattle.theory.specs.Backtracking.{place, follows, firstFit}
 use Rattle.theory.proofs.PairCheck.{Lawful}
-use Rattle.theory.proofs.RowsAt.{In, rows-chain}
+use Rattle.theory.proofs.RowsAt.{rows-chain}
 
 pub in-append : (d : ℕ) (X Y : List ℕ) → In d (X ++ Y) → In d X ⊎ In d Y
 in-append d [] Y m = inr m

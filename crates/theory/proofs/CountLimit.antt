@@ -10,7 +10,7 @@ use lib.Dec.{ltb}
 use borrow.Author.Tests.{not-true, ltb-true, ltb-false}
 use Rattle.theory.specs.Dictionary.{Dictionary, KnownText}
 use Rattle.theory.specs.Merge.{encode}
-use Rattle.theory.specs.Backtracking.{State, codes, step, start, finished, run, Limited, counted, over, buffered, final, runLimited, countTillLimit}
+use Rattle.theory.specs.Backtracking.{State, codes, step, start, finished, run, Limited, counted, over, buffered, final, passed, runLimited, countTillLimit, PassedAfter}
 use Rattle.theory.proofs.Lists.{true-false, bool-cases, and-both}
 use Rattle.theory.proofs.PairCheck.{Lawful}
 use Rattle.theory.proofs.Places.{stepsLeft, stepsLeft-le}
@@ -21,14 +21,6 @@ codes-length [] = refl
 codes-length (c ∷ K) = omega (arith, length-append (codes K) (c ∷ []), codes-length K)
 
 module _ (D : Dictionary) (t : List ℕ) (limit : ℕ) where
-  -- the running count passes limit + 10
-  abbrev pub passed : State → Bool
-  passed s = not (finished D t s) && ltb (buffered D t limit) (length (s .stack))
-
-  -- so after so many steps, one or more, that do not finish the text
-  abbrev pub PassedAfter : ℕ → State → Type 0
-  PassedAfter j s = passed (run D t (suc j) s) ≡ true
-
   -- the answer from a state on
   unfoldable pub answer : State → Limited
   answer s = runLimited D t limit (stepsLeft D t (s .stack) (s .dead)) s
@@ -41,10 +33,10 @@ module _ (D : Dictionary) (t : List ℕ) (limit : ℕ) where
   limited-end zero s e = refl
   limited-end (suc f) s e = rw (e, runLimited)
 
-  limited-over : (f : ℕ) (s : State) → finished D t s ≡ false → passed (step D t s) ≡ true → runLimited D t limit (suc f) s ≡ over
+  limited-over : (f : ℕ) (s : State) → finished D t s ≡ false → passed D t limit (step D t s) ≡ true → runLimited D t limit (suc f) s ≡ over
   limited-over f s e p = rw (e, p, runLimited)
 
-  limited-next : (f : ℕ) (s : State) → finished D t s ≡ false → passed (step D t s) ≡ false → runLimited D t limit (suc f) s ≡ runLimited D t limit f (step D t s)
+  limited-next : (f : ℕ) (s : State) → finished D t s ≡ false → passed D t limit (step D t s) ≡ false → runLimited D t limit (suc f) s ≡ runLimited D t limit f (step D t s)
   limited-next f s e p = rw (e, p, runLimited)
 
   run-stays : (f : ℕ) (s : State) → finished D t s ≡ true → run D t f s ≡ s
@@ -57,20 +49,20 @@ module _ (D : Dictionary) (t : List ℕ) (limit : ℕ) where
   module _ (A : Lawful D) (k : KnownText D t) where
     -- the two ways to an answer
     abbrev Outcome : State → Limited → Type 0
-    Outcome s a = ((a ≡ final D t limit (length (encode D t))) × ((j : ℕ) → PassedAfter j s → ⊥)) ⊎ ((a ≡ over) × (j : ℕ) × PassedAfter j s)
+    Outcome s a = ((a ≡ final D t limit (length (encode D t))) × ((j : ℕ) → PassedAfter D t limit j s → ⊥)) ⊎ ((a ≡ over) × (j : ℕ) × PassedAfter D t limit j s)
 
     ended : (f : ℕ) (s : State) → Going D t s → finished D t s ≡ true → Outcome s (runLimited D t limit f s)
     ended f s g e = inl (
       limited-end f s e ∙ ap (final D t limit) (sym (codes-length (s .stack)) ∙ ap length (going-end D t s g e)),
-      λ j p. let p' : passed s ≡ true = rw (run-stays (suc j) s e) at p in
+      λ j p. let p' : passed D t limit s ≡ true = rw (run-stays (suc j) s e) at p in
           true-false (sym e ∙ not-true (finished D t s) (and-both (not (finished D t s)) (ltb (buffered D t limit) (length (s .stack))) p' .0)),
     )
 
     outcome : (f : ℕ) (s : State) → Going D t s → stepsLeft D t (s .stack) (s .dead) ≤ f → Outcome s (runLimited D t limit f s)
     outcome zero s g h = bool-cases (finished D t s) (ended zero s g) (λ e. absurd (omega (arith, going-falls D A t k s g e)))
-    outcome (suc f) s g h = go (finished D t s) refl (passed (step D t s)) refl (outcome f (step D t s))
+    outcome (suc f) s g h = go (finished D t s) refl (passed D t limit (step D t s)) refl (outcome f (step D t s))
       where
-        go : (b : Bool) → finished D t s ≡ b → (p : Bool) → passed (step D t s) ≡ p → (Going D t (step D t s) → stepsLeft D t (step D t s .stack) (step D t s .dead) ≤ f → Outcome (step D t s) (runLimited D t limit f (step D t s)))
+        go : (b : Bool) → finished D t s ≡ b → (p : Bool) → passed D t limit (step D t s) ≡ p → (Going D t (step D t s) → stepsLeft D t (step D t s .stack) (step D t s .dead) ≤ f → Outcome (step D t s) (runLimited D t limit f (step D t s)))
             → Outcome s (runLimited D t limit (suc f) s)
         go true e p q ih = ended (suc f) s g e
         go false e true q ih = inr (limited-over f s e q, 0, (rw (run-next 0 s e) q))
@@ -79,7 +71,7 @@ module _ (D : Dictionary) (t : List ℕ) (limit : ℕ) where
             (λ r. inr (limited-next f s e q ∙ r .0, suc (r .1), rw (run-next (suc (r .1)) s e) (r .2)))
             (ih (going-step D A t k s g e) (omega (arith, going-falls D A t k s g e)))
           where
-            none : (runLimited D t limit f (step D t s) ≡ final D t limit (length (encode D t))) × ((j : ℕ) → PassedAfter j (step D t s) → ⊥) → (j : ℕ) → PassedAfter j s → ⊥
+            none : (runLimited D t limit f (step D t s) ≡ final D t limit (length (encode D t))) × ((j : ℕ) → PassedAfter D t limit j (step D t s) → ⊥) → (j : ℕ) → PassedAfter D t limit j s → ⊥
             none r zero p = true-false (sym (rw (run-next 0 s e) at p) ∙ q)
             none r (suc j) p = r .1 j (rw (run-next (suc j) s e) at p)
 
@@ -119,11 +111,11 @@ module _ (D : Dictionary) (t : List ℕ) (limit : ℕ) where
     count-over h = ⊎-elim (λ x. x .0 ∙ ⊎-elim (λ r. r .1) (λ r. absurd (omega (arith, r .0))) (final-is (length (encode D t)))) (λ x. x .0) whole
 
     -- or if the running count passes limit + 10 after a step that does not finish the text
-    pub passed-over : (j : ℕ) → PassedAfter j (start D t) → countTillLimit D t limit ≡ over
+    pub passed-over : (j : ℕ) → PassedAfter D t limit j (start D t) → countTillLimit D t limit ≡ over
     passed-over j p = ⊎-elim (λ x. absurd (x .1 j p)) (λ x. x .0) whole
 
     -- and only then
-    pub over-only : countTillLimit D t limit ≡ over → (limit < length (encode D t)) ⊎ ((j : ℕ) × PassedAfter j (start D t))
+    pub over-only : countTillLimit D t limit ≡ over → (limit < length (encode D t)) ⊎ ((j : ℕ) × PassedAfter D t limit j (start D t))
     over-only e = ⊎-elim
         (λ x. ⊎-elim (λ r. inl (r .0)) (λ r. absurd (counted-over (length (encode D t)) (sym (r .1) ∙ sym (x .0) ∙ e))) (final-is (length (encode D t))))
         (λ x. inr (x .1, x .2))
@@ -138,10 +130,10 @@ module _ (D : Dictionary) (t : List ℕ) (limit : ℕ) where
     unfolding answer
     answer-end s e = limited-end (stepsLeft D t (s .stack) (s .dead)) s e
 
-    pub answer-over : (s : State) → Going D t s → finished D t s ≡ false → passed (step D t s) ≡ true → answer s ≡ over
+    pub answer-over : (s : State) → Going D t s → finished D t s ≡ false → passed D t limit (step D t s) ≡ true → answer s ≡ over
     unfolding answer
     answer-over s g e p = rw (← going-falls D A t k s g e) (limited-over (stepsLeft D t (step D t s .stack) (step D t s .dead)) s e p)
 
-    pub answer-next : (s : State) → Going D t s → finished D t s ≡ false → passed (step D t s) ≡ false → answer s ≡ answer (step D t s)
+    pub answer-next : (s : State) → Going D t s → finished D t s ≡ false → passed D t limit (step D t s) ≡ false → answer s ≡ answer (step D t s)
     unfolding answer
     answer-next s g e p = rw (← going-falls D A t k s g e) (limited-next (stepsLeft D t (step D t s .stack) (step D t s .dead)) s e p)

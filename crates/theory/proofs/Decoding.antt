@@ -8,6 +8,7 @@ use Rattle.theory.specs.Dictionary.{Dictionary, spell, KnownText}
 use Rattle.theory.specs.Merge.{encode}
 use Rattle.theory.specs.Paper.{paperCodes}
 use Rattle.theory.specs.Shortest.{shortest, greedy}
+use Rattle.theory.specs.Demands.{Decoded}
 use Rattle.theory.proofs.Stage as St
 use Rattle.theory.proofs.PairCheck.{Lawful}
 use Rattle.theory.proofs.Encode.{encode-spells}
@@ -16,18 +17,12 @@ use Rattle.theory.proofs.Shortest.{shortest-spells}
 use Rattle.theory.proofs.Greedy.{greedy-spells}
 
 module _ (D : Dictionary) where
-  pub record Decoded (t : List ℕ) : Type 0 where
-    pub merge : spell D (encode D t) ≡ t
-    pub paper : spell D (paperCodes D t) ≡ t
-    pub shortest : spell D (shortest D t) ≡ t
-    pub greedy : spell D (greedy D t) ≡ t
-
   module _ (A : Lawful D) where
     paper-spells : (t : List ℕ) → spell D (paperCodes D t) ≡ t
     unfolding paperCodes
     paper-spells t = St.spell-stage D (A .laws) (D .count) t
 
-    pub decoded : (t : List ℕ) → KnownText D t → Decoded t
+    pub decoded : (t : List ℕ) → KnownText D t → Decoded D t
     decoded t k = record { merge = encode-spells D A t; paper = paper-spells t; shortest = shortest-spells D A t k; greedy = greedy-spells D A t k }
 
     -- a list has no more codes than it spells bytes

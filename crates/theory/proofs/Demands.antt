@@ -5,46 +5,35 @@ use mathlib.Core.List.{List, [], _∷_, _++_}
 use mathlib.Core.Bool.{true, false}
 use Prim.Native.Nat.{ℕ, _+_, _-_, _*_, _≤_, _<_}
 use lib.ListN.{length, getD, take, drop}
+use Rattle.theory.specs.Lists.{In}
 use Rattle.theory.specs.Dictionary.{Dictionary, Octets, spell, AllRows}
 use Rattle.theory.specs.Merge.{encode}
 use Rattle.theory.specs.Paper.{paperCodes}
-use Rattle.theory.specs.PairCheck.{listedBelow, walk, passes, passesJoined, AllPass}
+use Rattle.theory.specs.PairCheck.{listedBelow, walk, passes, passesJoined}
 use Rattle.theory.specs.Parts.{Accepted, dictionary, withParts, partsBelow, longestAt, prefixes, rowsUpTo, rowsAt}
-use Rattle.theory.specs.Backtracking.{State, Limited, counted, over, start, run, firstFit, finished, backtrack, countTillLimit}
+use Rattle.theory.specs.Backtracking.{State, Limited, counted, over, start, run, firstFit, finished, backtrack, countTillLimit, PassedAfter}
 use Rattle.theory.specs.Table.{lastCode, tableCodes}
-use Rattle.theory.specs.Shortest.{shortest, greedy, LongerFirst}
+use Rattle.theory.specs.Shortest.{shortest}
+use Rattle.theory.specs.Demands.{ExactlyOne, Fewest, Decoded}
 use mathlib.Core.Option as Option
-use Rattle.theory.specs.Typing.{Side, inOrder, endCode, inForm}
+use Rattle.theory.specs.Typing.{Side, inOrder, endCode, Ends, inForm, TrueAt}
 use Rattle.theory.specs.Tree.{above, parentOf, treeNumber, treeEnd, depth, intervalCount}
 use Rattle.theory.proofs.PairCheck.{Lawful}
 use Rattle.theory.proofs.Merge.{merge-is-stage}
 use Rattle.theory.proofs.Neighbours.{only-these}
 use Rattle.theory.proofs.Encode.{encode-spells, encode-passes, encode-only, encode-row}
-use Rattle.theory.proofs.RowsAt.{In, rows-chain, rows-every, different}
+use Rattle.theory.proofs.RowsAt.{rows-chain, rows-every, different}
 use Rattle.theory.proofs.Longest.{rows-front}
 use Rattle.theory.proofs.Accepted.{lawful, known-text, check-before}
 use Rattle.theory.proofs.Readings.{readings-agree}
 use Rattle.theory.proofs.Backtracking.{backtrack-is, never-empty, run-finished}
-use Rattle.theory.proofs.CountLimit.{PassedAfter, count-is, count-over, over-only, passed-over}
-use Rattle.theory.proofs.Sides.{Ends, end-code, one-end, one-more-code}
-use Rattle.theory.proofs.Typing.{TrueAt, forms-true, trues-form}
+use Rattle.theory.proofs.CountLimit.{count-is, count-over, over-only, passed-over}
+use Rattle.theory.proofs.Sides.{end-code, one-end, one-more-code}
+use Rattle.theory.proofs.Typing.{forms-true, trues-form}
 use Rattle.theory.proofs.Table.{tableCodes-encode}
 use Rattle.theory.proofs.Shortest.{shortest-rows, shortest-spells, shortest-least, shortest-ties}
-use Rattle.theory.proofs.Decoding.{Decoded, decoded}
+use Rattle.theory.proofs.Decoding.{decoded}
 use Rattle.theory.proofs.Interval.{above↔numbers, interval-count}
-
--- of all code lists that spell a text exactly one has all neighbours passing, and it is this one
-pub record ExactlyOne (D : Dictionary) (t M : List ℕ) : Type 0 where
-  pub spells : spell D M ≡ t
-  pub all-pass : AllPass D M
-  pub only : (L : List ℕ) → AllPass D L → spell D L ≡ t → L ≡ M
-
--- the fewest codes that spell a text; among those the longest first row, then the longest second, and so on
-pub record Fewest (D : Dictionary) (t M : List ℕ) : Type 0 where
-  pub rows : AllRows D M
-  pub spells : spell D M ≡ t
-  pub least : (L : List ℕ) → AllRows D L → spell D L ≡ t → length M ≤ length L
-  pub ties : (L : List ℕ) → AllRows D L → spell D L ≡ t → length L ≡ length M → (L ≡ M) ⊎ LongerFirst D M L
 
 -- rows that build accepts, and a text of octets
 module _ (rows : List (List ℕ)) (A : Accepted rows) where
@@ -81,8 +70,8 @@ module _ (rows : List (List ℕ)) (A : Accepted rows) where
       → walk (withParts rows (partsBelow rows w)) (listedBelow (withParts rows (partsBelow rows w))) k u v m ≡ walk D (listedBelow D) k u v m
   check-sees-rows-before = check-before rows A
 
-  -- "no join across the seam": both readings give the same check
-  pub both-readings-agree : (u v : ℕ) → u < D .count → v < D .count → passesJoined D (D .count) u v ≡ passes D (D .count) u v
+  -- "no join across the seam": both readings give the same check, over all rows and over the rows before a row
+  pub both-readings-agree : (q u v : ℕ) → q ≤ D .count → u < q → v < q → passesJoined D q u v ≡ passes D q u v
   both-readings-agree = readings-agree D L
 
   -- 4. Demand 2: backtracking by document 01's steps gives that list, it is finished after 2 m steps, and no step takes back from an empty stack

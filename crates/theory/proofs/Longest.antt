@@ -7,10 +7,10 @@ use native.Mathlib.Omega.{arith}
 use lib.ListN.{length, length-append, drop}
 use lib.Seq.{drop-at}
 use Rattle.theory.specs.Dictionary.{Dictionary, KnownText, none}
-use Rattle.theory.specs.Lists.{firstOr}
+use Rattle.theory.specs.Lists.{firstOr, In}
 use Rattle.theory.specs.Parts.{rowsUpTo, rowsAt, longestAt, prefixes}
 use Rattle.theory.proofs.PairCheck.{Lawful}
-use Rattle.theory.proofs.RowsAt.{different, filled, In, rows-known, rows-begin, rows-short, rows-every, rows-chain, rows-some}
+use Rattle.theory.proofs.RowsAt.{different, filled, rows-known, rows-begin, rows-short, rows-every, rows-chain, rows-some}
 use Rattle.theory.proofs.ShortestLists.{Falling}
 
 module _ (D : Dictionary) where

@@ -75,8 +75,8 @@ module _ (D : Dictionary) (A : Lawful D) where
           let b = A .laws .left-below v (d .long) in
           rw (f, g, walk) (ihr (omega arith) (λ h. omega (arith, d .higher h)) (λ _. omega arith) (rw (l, g, walk) at e))
 
-  -- the two readings of the pair check agree
-  pub readings-agree : (u v : ℕ) → u < D .count → v < D .count → passesJoined D (D .count) u v ≡ passes D (D .count) u v
-  readings-agree u v hu hv = bool-cases (passes D (D .count) u v)
-      (λ e. listed-joined-walk (suc (u + v)) u v (D .count) hu hv (omega arith) (λ _. hu) (λ _. hv) e ∙ sym e)
-      (λ e. bool-cases (passesJoined D (D .count) u v) (λ f. absurd (true-false (sym (joined-listed (suc (u + v)) u v (D .count) f) ∙ e))) (λ f. f ∙ sym e))
+  -- the two readings of the pair check agree, over the rows below any limit
+  pub readings-agree : (q u v : ℕ) → q ≤ D .count → u < q → v < q → passesJoined D q u v ≡ passes D q u v
+  readings-agree q u v h hu hv = bool-cases (passes D q u v)
+      (λ e. listed-joined-walk (suc (u + v)) u v q (omega arith) (omega arith) h (λ _. hu) (λ _. hv) e ∙ sym e)
+      (λ e. bool-cases (passesJoined D q u v) (λ f. absurd (true-false (sym (joined-listed (suc (u + v)) u v q f) ∙ e))) (λ f. f ∙ sym e))

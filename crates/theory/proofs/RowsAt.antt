@@ -10,18 +10,13 @@ use lib.ListN.{length, length-append, length-take, take, drop, take-append-drop}
 use lib.Seq.{take-at, take-take}
 use lib.Dec.{ltb}
 use borrow.Author.Tests.{ltb-true, lt-ltb, le-ltb}
-use Rattle.theory.specs.Lists.{firstOr}
+use Rattle.theory.specs.Lists.{firstOr, In}
 use Rattle.theory.specs.Dictionary.{Dictionary, none}
 use Rattle.theory.specs.Merge.{rowBelow, rowOf}
 use Rattle.theory.specs.Parts.{rowsUpTo, rowsAt, prefixes}
 use Rattle.theory.proofs.Lists.{cons-head, cons-tail, nil-cons, true-false, bool-cases, lt-or-ge}
 use Rattle.theory.proofs.PairCheck.{Lawful}
 use Rattle.theory.proofs.Merge.{rowBelow-is, rowBelow-found, distinct}
-
--- c is in a list
-abbrev pub In : ℕ → List ℕ → Type 0
-In c [] = ⊥
-In c (x ∷ xs) = (c ≡ x) ⊎ In c xs
 
 module _ (D : Dictionary) where
   upTo-row : (l : ℕ) (t : List ℕ) → rowOf D (take (suc l) t) < D .count → rowsUpTo D (suc l) t ≡ rowOf D (take (suc l) t) ∷ rowsUpTo D l t

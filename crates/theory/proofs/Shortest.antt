@@ -6,11 +6,12 @@ use mathlib.Core.List.{List, [], _∷_, _++_}
 use Prim.Native.Nat.{ℕ, zero, suc, _≤_, _<_}
 use native.Mathlib.Omega.{arith}
 use lib.ListN.{length, length-append, drop}
+use Rattle.theory.specs.Lists.{In}
 use Rattle.theory.specs.Dictionary.{Dictionary, spell, AllRows, KnownText}
 use Rattle.theory.specs.Parts.{rowsAt}
 use Rattle.theory.specs.Shortest.{shortest, LongerFirst}
 use Rattle.theory.proofs.PairCheck.{Lawful}
-use Rattle.theory.proofs.RowsAt.{different, filled, In, rows-known, rows-every}
+use Rattle.theory.proofs.RowsAt.{different, filled, rows-known, rows-every}
 use Rattle.theory.proofs.Longest.{rowLength, rest-is, row-begins}
 use Rattle.theory.proofs.ShortestSteps.{behind, chosen, shortest-nil, shortest-cons, chosen-in, chosen-fewest, chosen-longest}
 

@@ -7,8 +7,8 @@ use Prim.Native.Nat.{ℕ, _≤_, _<_}
 use native.Mathlib.Omega.{arith}
 use lib.Dec.{ltb}
 use borrow.Author.Tests.{lt-ltb, le-ltb}
+use Rattle.theory.specs.Lists.{In}
 use Rattle.theory.proofs.Lists.{lt-or-ge}
-use Rattle.theory.proofs.RowsAt.{In}
 
 -- each element has a higher value than all behind it
 abbrev pub Falling : (ℕ → ℕ) → List ℕ → Type 0

@@ -8,12 +8,13 @@ use lib.ListN.{length, length-drop, getD, drop}
 use lib.Seq.{drop-drop, drop-length}
 use lib.Dec.{ltb}
 use borrow.Author.Tests.{ltb-true, ltb-false}
+use Rattle.theory.specs.Lists.{In}
 use Rattle.theory.specs.Dictionary.{Dictionary, KnownText}
 use Rattle.theory.specs.Parts.{rowsAt, longestAt, prefixes}
 use Rattle.theory.specs.Shortest.{shorter, bestOf, shortestOfTails, shortest}
 use Rattle.theory.proofs.Lists.{bool-cases}
 use Rattle.theory.proofs.PairCheck.{Lawful}
-use Rattle.theory.proofs.RowsAt.{filled, In, rows-known, rows-short}
+use Rattle.theory.proofs.RowsAt.{filled, rows-known, rows-short}
 use Rattle.theory.proofs.ShortestLists.{least, least-right-kept, least-right-lower, least-in, least-low, least-first}
 use Rattle.theory.proofs.Longest.{rowLength, known-drop, rows-front, rows-falling}
 

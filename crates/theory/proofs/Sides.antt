@@ -11,7 +11,7 @@ use Rattle.theory.specs.Lists.{firstOr, lastOr}
 use Rattle.theory.specs.Dictionary.{Dictionary, none, spell, AllRows, KnownText}
 use Rattle.theory.specs.Merge.{encode}
 use Rattle.theory.specs.PairCheck.{AllPass}
-use Rattle.theory.specs.Typing.{Side, append, prepend, inOrder, endCode, passesBeside}
+use Rattle.theory.specs.Typing.{Side, append, prepend, inOrder, endCode, passesBeside, Ends}
 use Rattle.theory.proofs.Lists.{nil-cons, lastOr-append, snoc-view}
 use Rattle.theory.proofs.PairCheck.{Lawful}
 use Rattle.theory.proofs.Neighbours.{spell-snoc}
@@ -93,13 +93,6 @@ module _ (D : Dictionary) where
   spell-with append Y c = spell-snoc D Y c
   spell-with prepend Y c = reverse-append (D .bytes c) (spell D Y)
 
-  -- a row that ends the typed bytes, and the typed bytes before it are none or the row passes beside their end code
-  pub record Ends (side : Side) (s : List ℕ) (c : ℕ) : Type 0 where
-    pub before : List ℕ
-    pub row : c < D .count
-    pub text : s ≡ before ++ inOrder side (D .bytes c)
-    pub follows : (before ≡ []) ⊎ (passesBeside D side (endCode side (encode D (inOrder side before))) c ≡ true)
-
   module _ (A : Lawful D) where
     -- a row has one byte or more
     pub empty-text : (t : List ℕ) → encode D t ≡ [] → t ≡ []
@@ -117,7 +110,7 @@ module _ (D : Dictionary) where
     one-more prepend a c k h f = rw (reverse-append, reverse-reverse) (encode-prepend D A c (reverse a) k h f)
 
     -- the codes are those of the typed bytes before the row, and the row
-    pub codes-with : (side : Side) (s : List ℕ) (c : ℕ) → KnownText D s → (e : Ends side s c) → encode D (inOrder side s) ≡ withCode side (encode D (inOrder side (e .before))) c
+    pub codes-with : (side : Side) (s : List ℕ) (c : ℕ) → KnownText D s → (e : Ends D side s c) → encode D (inOrder side s) ≡ withCode side (encode D (inOrder side (e .before))) c
     codes-with side s c k e = ap (λ (l : List ℕ). encode D (inOrder side l)) (e .text) ∙ one-more side a c (known-inOrder side a known) (e .row) (⊎-elim none-before beside (e .follows))
       where
         a : List ℕ
@@ -136,28 +129,28 @@ module _ (D : Dictionary) where
         beside p = ⊎-elim (λ z. inl (empty-text (inOrder side a) z)) (λ z. inr (rw (← z) p)) (any-default side c (encode D (inOrder side a)))
 
     -- uniqueness
-    pub one-end : (side : Side) (s : List ℕ) (c : ℕ) → KnownText D s → Ends side s c → c ≡ endCode side (encode D (inOrder side s))
+    pub one-end : (side : Side) (s : List ℕ) (c : ℕ) → KnownText D s → Ends D side s c → c ≡ endCode side (encode D (inOrder side s))
     one-end side s c k e = sym (ap (endCode side) (codes-with side s c k e) ∙ endCode-with side (encode D (inOrder side (e .before))) c)
 
     -- the count: one more than that of the bytes before, which is 1 where there are none
-    pub one-more-code : (side : Side) (s : List ℕ) (c : ℕ) → KnownText D s → (e : Ends side s c) → length (encode D (inOrder side s)) ≡ suc (length (encode D (inOrder side (e .before))))
+    pub one-more-code : (side : Side) (s : List ℕ) (c : ℕ) → KnownText D s → (e : Ends D side s c) → length (encode D (inOrder side s)) ≡ suc (length (encode D (inOrder side (e .before))))
     one-more-code side s c k e = ap (length {A = ℕ}) (codes-with side s c k e) ∙ length-with side (encode D (inOrder side (e .before))) c
 
-    pub one-code : (side : Side) (s : List ℕ) (c : ℕ) → KnownText D s → (e : Ends side s c) → e .before ≡ [] → length (encode D (inOrder side s)) ≡ 1
+    pub one-code : (side : Side) (s : List ℕ) (c : ℕ) → KnownText D s → (e : Ends D side s c) → e .before ≡ [] → length (encode D (inOrder side s)) ≡ 1
     one-code side s c k e z = one-more-code side s c k e ∙ (rw (z, inOrder-nil side, encode-nil D A))
 
     -- existence
-    pub end-code : (side : Side) (s : List ℕ) → KnownText D s → (s ≡ [] → ⊥) → Ends side s (endCode side (encode D (inOrder side s)))
+    pub end-code : (side : Side) (s : List ℕ) → KnownText D s → (s ≡ [] → ⊥) → Ends D side s (endCode side (encode D (inOrder side s)))
     end-code side s k h = ⊎-elim nothing found (with-view side (encode D (inOrder side s)))
       where
         t : List ℕ
         t = inOrder side s
 
-        nothing : encode D t ≡ [] → Ends side s (endCode side (encode D t))
+        nothing : encode D t ≡ [] → Ends D side s (endCode side (encode D t))
         nothing e = absurd (h (sym (inOrder-twice side s) ∙ ap (inOrder side) (empty-text t e) ∙ inOrder-nil side))
 
-        found : (Y : List ℕ) × (c : ℕ) × (encode D t ≡ withCode side Y c) → Ends side s (endCode side (encode D t))
-        found r = subst (λ (c : ℕ). Ends side s c) (sym (ap (endCode side) e ∙ endCode-with side Y c)) ended
+        found : (Y : List ℕ) × (c : ℕ) × (encode D t ≡ withCode side Y c) → Ends D side s (endCode side (encode D t))
+        found r = subst (λ (c : ℕ). Ends D side s c) (sym (ap (endCode side) e ∙ endCode-with side Y c)) ended
           where
             Y : List ℕ
             Y = r .0
@@ -174,7 +167,7 @@ module _ (D : Dictionary) where
             codes-before : encode D (inOrder side (inOrder side (spell D Y))) ≡ Y
             codes-before = ap (encode D) (inOrder-twice side (spell D Y)) ∙ parts-with side t Y c e
 
-            ended : Ends side s c
+            ended : Ends D side s c
             ended = record {
               before = inOrder side (spell D Y);
               row = row-with side Y c (subst (λ (L : List ℕ). AllRows D L) e (encode-rows D A t (known-inOrder side s k)));

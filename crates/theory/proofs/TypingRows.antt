@@ -11,12 +11,12 @@ use lib.ListN.{length, take, drop, length-append, take-append-drop}
 use lib.Seq.{length-take-le, take-take}
 use Rattle.theory.specs.Dictionary.{Dictionary, KnownText}
 use Rattle.theory.specs.Merge.{encode}
-use Rattle.theory.specs.Typing.{Side, inOrder, codeAt, countAt, passesBeside}
+use Rattle.theory.specs.Typing.{Side, inOrder, codeAt, countAt, passesBeside, Ends}
 use Rattle.theory.proofs.TypingLists.{cut-left, cut-right}
 use Rattle.theory.proofs.PairCheck.{Lawful}
 use Rattle.theory.proofs.Encode.{encode-nil}
 use Rattle.theory.proofs.RowsAt.{filled}
-use Rattle.theory.proofs.Sides.{withCode, length-with, Ends, end-code, one-end, codes-with, inOrder-nil, length-inOrder, known-take}
+use Rattle.theory.proofs.Sides.{withCode, length-with, end-code, one-end, codes-with, inOrder-nil, length-inOrder, known-take}
 
 module _ (D : Dictionary) (side : Side) where
   -- a row that ends the first i + 1 typed bytes, and reaches the first byte or passes with the code of the record just before its bytes

@@ -1,6 +1,7 @@
 -- Sending and counting by backtracking: "longest row first; where it doesn't pass with the code before, or its end was
 -- marked dead, its next prefix; where none is left, mark the place dead and take back one code". And the count with a
 -- limit.
+use mathlib.Core.Path.{_≡_}
 use mathlib.Core.List.{List, [], _∷_, _++_}
 use mathlib.Core.Bool.{Bool, true, false, not, _&&_, _||_}
 use mathlib.Core.Option.{Option, none, some}
@@ -93,14 +94,22 @@ module _ (D : Dictionary) (t : List ℕ) (limit : ℕ) where
   abbrev pub final : ℕ → Limited
   final n = elim (ltb limit n) [ true ↦ over | false ↦ counted n ]
 
-  -- "Over" if "the running count passes limit + 10 .. after a step that doesn't finish the text"
+  -- "the running count passes limit + 10 .. after a step that doesn't finish the text"
+  abbrev pub passed : State → Bool
+  passed s = not (finished D t s) && ltb buffered (length (s .stack))
+
+  -- "Over" if so
   abbrev pub runLimited : ℕ → State → Limited
   runLimited zero s = final (length (s .stack))
   runLimited (suc k) s = elim (finished D t s) [
     | true ↦ final (length (s .stack))
-    | false ↦ elim (not (finished D t (step D t s)) && ltb buffered (length (step D t s .stack)))
+    | false ↦ elim (passed (step D t s))
         [ true ↦ over | false ↦ runLimited k (step D t s) ]
   ]
 
   unfoldable pub countTillLimit : Limited
   countTillLimit = runLimited (2 * length t) (start D t)
+
+  -- the running count passes after j + 1 steps
+  abbrev pub PassedAfter : ℕ → State → Type 0
+  PassedAfter j s = passed (run D t (suc j) s) ≡ true

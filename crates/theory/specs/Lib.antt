@@ -11,6 +11,8 @@ pub mod Table
 pub mod Shortest
 pub mod Typing
 pub mod Tree
+-- The demands' words for a code list.
+pub mod Demands
 -- Its sample files, computed on these definitions.
 pub mod Samples
 -- No term of document 01: what typing one byte more rests on.

@@ -1,4 +1,6 @@
 -- List functions that the definitions use.
+use mathlib.Core.Path.{_≡_}
+use mathlib.Core.Logic.{_⊎_}
 use mathlib.Core.List.{List, [], _∷_, _++_}
 use mathlib.Core.Bool.{Bool, true, false, _&&_}
 use lib.Dec.{eqb}
@@ -20,6 +22,11 @@ equal [] [] = true
 equal [] (y ∷ t) = false
 equal (x ∷ s) [] = false
 equal (x ∷ s) (y ∷ t) = eqb x y && equal s t
+
+-- c is in a list
+abbrev pub In : ℕ → List ℕ → Type 0
+In c [] = ⊥
+In c (x ∷ xs) = (c ≡ x) ⊎ In c xs
 
 -- f 0, f 1, .. , f (n - 1)
 abbrev pub tabulate : ℕ → (ℕ → ℕ) → List ℕ

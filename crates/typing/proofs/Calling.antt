@@ -16,7 +16,7 @@ use Rattle.causes.specs.Call.{saying, toNumber}
 use Rattle.causes.proofs.Calls.{call-of, answer-with}
 use Rattle.built_tables.specs.Built.{dictionaryOf, Built}
 use Rattle.typing_columns.specs.Refusals.{headOut, extendRefusal, tokenCountRefusal}
-use Rattle.typing_columns.specs.Columns.{lastCount, Typed, ExtendedColumns, CountedColumns}
+use Rattle.typing_columns.specs.Columns.{lastCount, Added, Typed, ExtendedColumns, CountedColumns}
 use Rattle.typing.specs.declared.State.{State}
 use Rattle.typing.specs.Records.{noState, entryOf, bytesOf, countsOf}
 use Rattle.typing.specs.Steps.{usableOf, endAfter, Room, ColumnsReady, Copied, Places, Stored}
@@ -99,12 +99,17 @@ module _ (T : Tables) (side : Side) (states : List State) (bytes codes counts : 
           let long : length (take len (bytesOf states)) ≡ len =
           length-take-le len (bytesOf states) (subst (λ (m : ℕ). len ≤ m) (sym (length-map states (λ (s : State). s .byte))) (head-fits len (length states) (so .head-in) .0)) in
           let byte : getD bytes' (len + k) 0 ≡ getD (take len (bytesOf states) ++ typed) (len + k) 0 =
-          is .byte ∙ sym (getD-append-add (take len (bytesOf states)) typed k 0) ∙ ap (λ (m : ℕ). getD (take len (bytesOf states) ++ typed) (m + k) 0) long in
+          done .call .given o .added k h .byte ∙ sym (getD-append-add (take len (bytesOf states)) typed k 0) ∙ ap (λ (m : ℕ). getD (take len (bytesOf states) ++ typed) (m + k) 0) long in
           let code : getD codes' (len + k) 0 ≡ codeAt (dictionaryOf file) side (take len (bytesOf states) ++ typed) (len + k) =
           is .code ∙ ap (λ (s : List ℕ). codeAt (dictionaryOf file) side (s ++ typed) (len + k)) text in
           let count : getD counts' (len + k) 0 ≡ countAt (dictionaryOf file) side (take len (bytesOf states) ++ typed) (len + k) =
           is .count ∙ ap (λ (s : List ℕ). countAt (dictionaryOf file) side (s ++ typed) (len + k)) text in
           ap entryOf (stored .stored (len + k) (omega arith) (omega (arith, h))) ∙ (λ j. record { byte = byte j; code = code j; count = count j })
+
+      added : refusal ≡ none → (k : ℕ) → k < length typed → Added file (len + k) (getD typed k 0) (entryOf (getD states' (len + k) noState))
+      added o k h =
+          let longer : end ≡ len + length typed = end-is end e ∙ end-given refusal (len + length typed) len o in
+          rw (stored .stored (len + k) (omega arith) (omega (arith, h))) (done .call .given o .added k h)
 
       pub extended-at : Extended T side len states typed r len' states'
       extended-at = record {
@@ -118,6 +123,7 @@ module _ (T : Tables) (side : Side) (states : List State) (bytes codes counts : 
             (λ o. record {
               number-is = refl;
               longer = l ∙ end-is end e ∙ end-given refusal (len + length typed) len o;
+              added = added o;
               built = entry o;
             });
         size-kept = stored .size-kept;

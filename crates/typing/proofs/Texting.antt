@@ -13,12 +13,12 @@ use lib.Seq.{getD-take, getD-set-same, getD-set-other, drop-set-lt, drop-drop, e
 use borrow.Author.Tests.{le-ltb}
 use Rattle.theory.specs.Dictionary.{Dictionary, Octets}
 use Rattle.theory.specs.Merge.{encode}
-use Rattle.theory.specs.Typing.{Side, Entry, inOrder, endCode, inForm, codeAt, countAt, entryAt}
+use Rattle.theory.specs.Typing.{Side, Entry, inOrder, endCode, checkAt, inForm, codeAt, countAt, entryAt}
 use Rattle.theory.proofs.Lists.{lt-or-ge, true-false}
 use Rattle.theory.proofs.Encode.{encode-spells}
 use Rattle.theory.proofs.Decoding.{codes-fit}
 use Rattle.theory.proofs.Sides.{length-inOrder}
-use Rattle.theory.proofs.Typing.{trues-form, entryAt-take}
+use Rattle.theory.proofs.Typing.{same-form, trues-form, entryAt-take}
 use Rattle.causes.specs.declared.Cause.{Cause}
 use Rattle.tables.specs.Tables.{Tables}
 use Rattle.tables.specs.InForm.{isOut, formOf}
@@ -33,6 +33,7 @@ use Rattle.built_tables.proofs.Rows.{lawful-is, known}
 use Rattle.built_tables.proofs.InForm.{in-form}
 use Rattle.typing_columns.specs.Refusals.{headOut, extendRefusal, tokenCountRefusal}
 use Rattle.typing_columns.specs.Columns.{FormOf, lastCount}
+use Rattle.typing_columns.proofs.Answers.{form-built}
 use Rattle.typing.specs.declared.State.{State}
 use Rattle.typing.specs.Records.{noState, entryOf, bytesOf, codesOf, countsOf}
 use Rattle.typing.specs.Steps.{endAfter}
@@ -40,7 +41,6 @@ use Rattle.typing.specs.Calls.{Extended, TokenCounted}
 use Rattle.typing.specs.Text.{TextTyped}
 use Rattle.typing.proofs.Ending.{head-in, end-refused, end-given}
 use Rattle.typing.proofs.Refusals.{Extends, extends, tables-in}
-use Rattle.typing.proofs.Agreeing.{form-at}
 
 -- the first i records are those of the text
 pub record Standing (D : Dictionary) (side : Side) (text : List ℕ) (i len : ℕ) (states : List State) : Type 0 where
@@ -94,10 +94,10 @@ module _ (T : Tables) (n : ℕ) (B : Built T n) (side : Side) (text : List ℕ) 
     fine-is : (fine : Bool) → FormOf T side len (length states) (bytesOf states) (codesOf states) (countsOf states) fine → fine ≡ true
     fine-is fine form =
         let same : take i (bytesOf states) ≡ take i text = subst (λ (k : ℕ). take k (bytesOf states) ≡ take i text) (S .len-is) (text-is D side text i len states S slice text-fits) in
-        form .built n B head-is
+        form-built T side len (length states) (bytesOf states) (codesOf states) (countsOf states) fine form n B head-is
         ∙ each-all (inForm D side (bytesOf states) (codesOf states) (countsOf states)) len
         (λ j h. let below : j < i = omega (arith, h, S .len-is) in
-        form-at D side i (bytesOf states) (codesOf states) (countsOf states) text (codesOf states) (countsOf states) same refl refl j below
+        same-form D side i (bytesOf states) (codesOf states) (countsOf states) text (codesOf states) (countsOf states) same refl refl (checkAt D side (codesOf states) j) j below
         ∙ trues-form D side (lawful-is T n B) text (known T n B text octets) (codesOf states) (countsOf states)
         i text-fits (λ k l. record { code = code-at D side text i len states S k l; count = count-at D side text i len states S k l }) j below)
 

@@ -14,19 +14,21 @@ use Rattle.causes.specs.declared.Answer.{Answer}
 use Rattle.causes.specs.Call.{Call, toNumber, noBuffer}
 use Rattle.built_tables.specs.Built.{dictionaryOf, Built}
 use Rattle.typing_columns.specs.Refusals.{extendRefusal, tokenCountRefusal, truncateRefusal}
-use Rattle.typing_columns.specs.Columns.{lastCount, FormOf}
+use Rattle.typing_columns.specs.Columns.{lastCount, Added, FormOf}
 use Rattle.typing.specs.declared.State.{State}
 use Rattle.typing.specs.Records.{noState, entryOf, bytesOf, codesOf, countsOf}
 
 module _ (T : Tables) (side : Typing.Side) where
   open Tables T using (file)
 
-  -- push and extend, not refused: the answer is the new length, and over tables that a build left the records added are
-  -- those of the bytes typed so far
+  -- push and extend, not refused: the answer is the new length, and the records added hold their bytes; over tables
+  -- that a build left they are those of the bytes typed so far
   pub record Longer (len : ℕ) (states : List State) (typed : List ℕ) (len' : ℕ) (states' : List State)
       (number : ℕ) : Type 0 where
     pub number-is : number ≡ len + length typed
     pub longer : len' ≡ len + length typed
+    pub added : (k : ℕ) → k < length typed
+        → Added file (len + k) (getD typed k 0) (entryOf (getD states' (len + k) noState))
     pub built : (n : ℕ) → Built T n → (k : ℕ) → k < length typed
         → entryOf (getD states' (len + k) noState)
         ≡ Typing.entryAt (dictionaryOf file) side (take len (bytesOf states) ++ typed) (len + k)

@@ -2,20 +2,18 @@
 use mathlib.Core.Path.{_≡_, refl, sym, ap, _∙_}
 use mathlib.Core.Option.{none}
 use mathlib.Core.List.{List, [], _∷_}
-use mathlib.Core.Bool.{Bool, true, false, _&&_}
-use Prim.Native.Nat.{ℕ, zero, suc, _-_, _≤_, _<_}
+use mathlib.Core.Bool.{Bool, true, false}
+use Prim.Native.Nat.{ℕ, zero, suc, _≤_, _<_}
 use native.Mathlib.Omega.{arith}
-use lib.ListN.{length, getD, take, drop, length-take, length-map, List·getD-map}
+use lib.ListN.{length, getD, take, length-take, length-map, List·getD-map}
 use lib.Seq.{take-take, getD-take, ext-getD}
-use lib.Dec.{ltb, leb}
 use borrow.Author.Tests.{le-ltb}
-use Rattle.theory.specs.Lists.{equal}
 use Rattle.theory.specs.Dictionary.{Dictionary, Octets}
 use Rattle.theory.specs.Merge.{encode}
-use Rattle.theory.specs.Typing.{Side, inOrder, Entry, codeAt, countAt, entryAt, follows, inForm}
+use Rattle.theory.specs.Typing.{Side, inOrder, Entry, codeAt, countAt, entryAt, checkAt, inForm, TrueAt}
 use Rattle.theory.proofs.Encode.{encode-nil}
 use Rattle.theory.proofs.Sides.{inOrder-nil}
-use Rattle.theory.proofs.Typing.{TrueAt, trues-form, countAt-last}
+use Rattle.theory.proofs.Typing.{same-form, trues-form, countAt-last}
 use Rattle.causes.specs.declared.Cause.the-variants.{TooLong, Full}
 use Rattle.causes.specs.Order.{otherOrder, when, over, firstOf}
 use Rattle.tables.specs.Tables.{Tables}
@@ -26,6 +24,7 @@ use Rattle.built_tables.proofs.Rows.{lawful-is, known}
 use Rattle.built_tables.proofs.InForm.{in-form}
 use Rattle.typing_columns.specs.Refusals.{headOut, full, extendRefusal, tokenCountRefusal, truncateRefusal}
 use Rattle.typing_columns.specs.Columns.{lastCount, FormOf}
+use Rattle.typing_columns.proofs.Answers.{form-built}
 use Rattle.typing.specs.declared.State.{State}
 use Rattle.typing.specs.Records.{noState, entryOf, bytesOf, codesOf, countsOf}
 use Rattle.typing_book.specs.Run.{Lent}
@@ -38,17 +37,6 @@ pub record Standing (D : Dictionary) (side : Side) (size : ℕ) (m : Lent) (s : 
   pub len : m .len ≡ length s
   pub size-is : length (m .states) ≡ size
   pub records : (i : ℕ) → i < length s → entryOf (getD (m .states) i noState) ≡ entryAt D side s i
-
--- whether a record is in form depends on the bytes up to it alone
-same-form : (D : Dictionary) (side : Side) (s t codes counts : List ℕ) (i : ℕ) → take (suc i) s ≡ take (suc i) t → inForm D side s codes counts i ≡ inForm D side t codes counts i
-unfolding inForm
-same-form D side s t codes counts i e =
-    let c = getD codes i 0 in
-    ap
-    (λ (l : List ℕ).
-    (ltb c (D .count) && (leb (length (D .bytes c)) (suc i) && equal (drop (suc i - length (D .bytes c)) l) (inOrder side (D .bytes c))))
-    && follows D side s codes counts i c (getD counts i 0))
-    e
 
 -- the head is in form
 head-in : (len size : ℕ) → len ≤ size → len ≤ 4096 → headOut len size ≡ false
@@ -108,14 +96,17 @@ module _ (T : Tables) (n : ℕ) (B : Built T n)
 
       each : (i : ℕ) → i < m .len → inForm D side (bytesOf (m .states)) (codesOf (m .states)) (countsOf (m .states)) i ≡ true
       each i h =
-          same-form D side (bytesOf (m .states)) s (codesOf (m .states)) (countsOf (m .states)) i (up-to i h)
+          same-form D side (suc i) (bytesOf (m .states)) (codesOf (m .states)) (countsOf (m .states)) s (codesOf (m .states)) (countsOf (m .states)) (up-to i h) refl refl
+          (checkAt D side (codesOf (m .states)) i) i (omega arith)
           ∙ trues-form D side (lawful-is T n B) s (known T n B s (S .octets))
           (codesOf (m .states)) (countsOf (m .states)) (length s) (omega arith) true-at i (omega (arith, S .len))
 
   module _ (fine : Bool)
       (form : FormOf T side (m .len) (length (m .states)) (bytesOf (m .states)) (codesOf (m .states)) (countsOf (m .states)) fine) where
     is-fine : fine ≡ true
-    is-fine = form .built n B (head-is D side size m s S) ∙ records-in
+    is-fine =
+        form-built T side (m .len) (length (m .states)) (bytesOf (m .states)) (codesOf (m .states)) (countsOf (m .states)) fine form n B (head-is D side size m s S)
+        ∙ records-in
 
     -- push and extend are refused by 9 and 12 alone
     pub extend-by-length : (typed : List ℕ) → extendRefusal T (m .len) (length (m .states)) fine typed

@@ -11,8 +11,8 @@ use Rattle.causes.specs.declared.Cause.{Cause}
 use Rattle.causes.specs.declared.Cause.the-variants.{OutOfForm, TooLong, Full}
 use Rattle.phrase_file.proofs.Checks.{accepted}
 use Rattle.theory.specs.Dictionary.{Octets}
-use Rattle.theory.specs.Typing.{Side, inForm}
-use Rattle.theory.proofs.Typing.{TrueAt, forms-true}
+use Rattle.theory.specs.Typing.{Side, checkAt, inForm, TrueAt}
+use Rattle.theory.proofs.Typing.{forms-true}
 use Rattle.tables.specs.Tables.{Tables, pairTables, withoutPrefixes}
 use Rattle.tables.specs.declared.Form.{Form}
 use Rattle.tables.specs.declared.Form.the-variants.{Rows, Out}
@@ -26,9 +26,10 @@ use Rattle.tables.proofs.Readiness.{ready}
 use Rattle.built_tables.specs.Built.{dictionaryOf, Built}
 use Rattle.built_tables.proofs.Rows.{lawful-is, known}
 use Rattle.typing_columns.specs.Refusals.{headOut, anyOut, extendRefusal, tokenCountRefusal}
-use Rattle.typing_columns.specs.Columns.{lastCount, FormOf, ExtendedColumns, CountedColumns}
+use Rattle.typing_columns.specs.Columns.{lastCount, Added, FormOf, ExtendedColumns, CountedColumns}
 use Rattle.typing_columns.specs.Steps.{Mirrored, Sizes, RecordsReady, RecordsAre, ExtendReady, ExtendedBy, PassedTo, Checked}
 use Rattle.typing_columns.proofs.Rows.{parts-in-form}
+use Rattle.typing_columns.proofs.Recording.{checks-as}
 
 out-rows : (n : ℕ) → Out ≡ Rows n → ⊥
 out-rows n e = let z : _≡_ {A = ℕ} 0 1 = cc in omega arith
@@ -106,8 +107,12 @@ module _ (T : Tables) (side : Side) (len size : ℕ) (bytes codes counts : List 
 
   -- where the records are not looked at, the definition says whether they are in form
   unread : FormOf T side len size bytes codes counts formed
-  unfolding allBelow
-  unread = record { none-yet = λ e. rw e; built = λ n B h. refl }
+  unread h = record { passed = checkAt (dictionaryOf file) side codes; is = refl; built = λ n B i l. refl }
+
+  -- over tables that a build left, the records are in form as defined
+  pub form-built : (fine : Bool) → FormOf T side len size bytes codes counts fine → (n : ℕ) → Built T n → headOut len size ≡ false → fine ≡ formed
+  form-built fine F n B h =
+      F h .is ∙ checks-as (dictionaryOf file) side bytes codes counts len (F h .passed) (F h .built n B)
 
   module _ (reading : List ℕ) where
     pub checked-out : form ≡ Out → Checked T side len size bytes codes counts reading Out
@@ -121,9 +126,10 @@ module _ (T : Tables) (side : Side) (len size : ℕ) (bytes codes counts : List 
       checked-long h k = record { fine = formed; form = unread; answer = rw (e, le-ltb size len h, lt-ltb 4096 len k); passed = λ m z. absurd (out-rows m z) }
 
       read : (r : Bool) → RecordsAre (withoutPrefixes T) side n bytes codes counts len r → FormOf T side len size bytes codes counts r
-      read r R = record {
-        none-yet = R .none-yet;
-        built = λ m B h. R .built prefixes (same-build T n m (ready T n e .places-ready) B);
+      read r R h = record {
+        passed = R .passed;
+        is = R .is;
+        built = λ m B i l. R .built prefixes (same-build T n m (ready T n e .places-ready) B) i;
       }
 
       module _ (h : len ≤ size) (k : len ≤ 4096) where
@@ -143,7 +149,8 @@ module _ (T : Tables) (side : Side) (len size : ℕ) (bytes codes counts : List 
             true-at B =
                 forms-true (dictionaryOf file) side (lawful-is T n B) bytes (known T n B bytes o) codes counts len
                 (omega (arith, M .bytes-size))
-                (all-each (inForm (dictionaryOf file) side bytes codes counts) len (sym (R .built prefixes B)))
+                (all-each (inForm (dictionaryOf file) side bytes codes counts) len
+                (sym (R .is ∙ checks-as (dictionaryOf file) side bytes codes counts len (R .passed) (λ i l. R .built prefixes B i))))
 
             passed : PassedTo T side n len bytes reading codes counts
             passed = record {
@@ -187,12 +194,16 @@ module _ (T : Tables) (side : Side) (len size : ℕ) (bytes codes counts : List 
             form = C .form;
             call = call-given toNumber (refuse-none T len size (C .fine) typed short right fits h) (len + length typed) (record {
               number-is = refl;
-              bytes-are = X .bytes-are;
+              added = λ k l. record {
+                byte = X .bytes-are k l;
+                row = let c = C .passed n refl .tables .places-ready .count in omega (arith, X .rows (len + k) (omega arith), c);
+                few = X .small (len + k) (omega arith);
+              };
               built = λ m B k l.
                   let P = C .passed n refl in
                   let B' = same-build T n m (P .tables .places-ready) B in
                   let t = X .built prefixes B' (P .codes-are B') (P .counts-are B') in
-                  record { byte = X .bytes-are k l; code = t .0 (len + k) (omega arith); count = t .1 (len + k) (omega arith) };
+                  record { code = t .0 (len + k) (omega arith); count = t .1 (len + k) (omega arith) };
             });
           }
 

@@ -7,7 +7,7 @@ use native.Mathlib.Omega.{arith}
 use lib.ListN.{length, getD}
 use lib.Dec.{eqb}
 use borrow.Author.Tests.{lt-ltb, le-ltb, ne-eqb}
-use Rattle.theory.specs.Typing.{Side}
+use Rattle.theory.specs.Typing.{Side, passesBeside}
 use Rattle.pair_check.specs.Pair.{PairIs}
 use Rattle.built_tables.specs.Built.{dictionaryOf}
 use Rattle.built_tables.proofs.Rows.{pair-is}
@@ -15,7 +15,7 @@ use Rattle.end_code.proofs.Sizes.{row-some}
 use Rattle.typing_columns.specs.declared.Side as Declared
 use Rattle.typing_columns.specs.declared.Side.the-variants.{Append, Prepend}
 use Rattle.typing_columns.specs.Sides.{sideOf}
-use Rattle.typing_columns.specs.Steps.{followsCode, countWith, PairOf, BesideIs, FollowsReady, FollowsIs, CountReady, CountIs}
+use Rattle.typing_columns.specs.Steps.{followsIf, countWith, PairOf, BesideIs, FollowsReady, FollowsIs, CountReady, CountIs}
 use Rattle.tables.specs.Tables.{PairTables, withPrefixes}
 
 -- the order of the pair check
@@ -46,19 +46,21 @@ module _ (P : PairTables) (side : Side) (n : ℕ) (codes : List ℕ) (i c len : 
 
   -- the row reaches the first byte or is longer
   pub follows-whole : i < len → FollowsIs P side n codes i c (eqb len (i + 1))
-  unfolding followsCode
+  unfolding followsIf
   follows-whole h = record {
-    built = λ prefixes B.
+    passed = passesBeside (dictionaryOf file) side (getD codes (i - length (dictionaryOf file .bytes c)) 0) c;
+    is =
         let z : i + 1 ≡ suc i = omega arith in
         rw (z, size) (or-none (eqb (length (dictionaryOf file .bytes c)) (suc i)) _ (rw (le-ltb (length (dictionaryOf file .bytes c)) (suc i) (omega arith))));
+    built = λ prefixes B. refl;
   }
 
   pub follows-beside : len ≤ i → (r : Bool) → BesideIs P side n (getD codes (i - len) 0) c r → FollowsIs P side n codes i c r
-  unfolding followsCode
+  unfolding followsIf
   follows-beside h r Q = record {
-    built = λ prefixes B.
-        Q .built prefixes B
-        ∙ rw (size, ne-eqb (length (dictionaryOf file .bytes c)) (suc i) (λ e. omega arith), lt-ltb (length (dictionaryOf file .bytes c)) (suc i) (omega arith));
+    passed = r;
+    is = rw (ne-eqb (length (dictionaryOf file .bytes c)) (suc i) (λ e. omega arith), lt-ltb (length (dictionaryOf file .bytes c)) (suc i) (omega arith));
+    built = λ prefixes B. rw (← size) (Q .built prefixes B);
   }
 
 module _ (file places : List ℕ) (n : ℕ) (counts : List ℕ) (i c len : ℕ) (R : CountReady file places n counts i c) (size : len ≡ length (dictionaryOf file .bytes c)) where

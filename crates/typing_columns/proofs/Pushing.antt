@@ -114,6 +114,8 @@ module _ (P : PairTables) (side : Side) (n len : ℕ) (bytes₀ codes₀ counts�
       codes-kept = E .codes-kept;
       counts-kept = E .counts-kept;
       bytes-are = λ m l. E .bytes-are m (omega arith);
+      rows = λ j l. E .rows j (omega arith);
+      small = λ j l. E .small j (omega arith);
       built = λ prefixes B c d. (λ j l. E .codes-are prefixes B c d j (omega arith), λ j l. E .counts-are prefixes B c d j (omega arith));
     }
 

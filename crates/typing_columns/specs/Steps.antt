@@ -44,10 +44,8 @@ endsBytes D side bytes i c =
     && equal (drop (suc i - length (D .bytes c)) (take (suc i) bytes)) (Typing.inOrder side (D .bytes c))
 
 -- "that row reaches the first byte", or "passes with the code of the record just before the row's bytes"
-unfoldable pub followsCode : Dictionary → Typing.Side → List ℕ → ℕ → ℕ → Bool
-followsCode D side codes i c =
-    eqb (length (D .bytes c)) (suc i)
-    || (ltb (length (D .bytes c)) (suc i) && Typing.passesBeside D side (getD codes (i - length (D .bytes c)) 0) c)
+unfoldable pub followsIf : Dictionary → Bool → ℕ → ℕ → Bool
+followsIf D passed i c = eqb (length (D .bytes c)) (suc i) || (ltb (length (D .bytes c)) (suc i) && passed)
 
 -- the count that goes with row c: "one more than that record's", or 1 where there is no such record
 unfoldable pub countWith : Dictionary → List ℕ → ℕ → ℕ → ℕ
@@ -84,10 +82,13 @@ pub record FollowsReady (P : PairTables) (n : ℕ) (codes : List ℕ) (i c : ℕ
   pub before : FrontRows n codes i
   pub row : c < n
 
--- whether row c follows
+-- whether row c follows, by the pair check's answer
 pub record FollowsIs (P : PairTables) (side : Typing.Side) (n : ℕ) (codes : List ℕ) (i c : ℕ) (r : Bool) : Type 0 where
+  pub passed : Bool
+  pub is : r ≡ followsIf (dictionaryOf (P .file)) passed i c
   pub built : (prefixes : List ℕ) → Built (withPrefixes P prefixes) n
-      → r ≡ followsCode (dictionaryOf (P .file)) side codes i c
+      → passed
+      ≡ Typing.passesBeside (dictionaryOf (P .file)) side (getD codes (i - length (dictionaryOf (P .file) .bytes c)) 0) c
 
 -- row c at place i behind small counts
 pub record CountReady (file places : List ℕ) (n : ℕ) (counts : List ℕ) (i c : ℕ) : Type 0 where
@@ -115,22 +116,25 @@ pub record RecordReady (P : PairTables) (n : ℕ) (bytes reading codes counts : 
   pub rows : RowsTo n codes i
   pub small : CountsTo counts i
 
--- whether record i is in form; if so its code is a row and its count is small
+-- whether record i is in form, by the pair check's answer; if so its code is a row and its count is small
 pub record RecordIs (P : PairTables) (side : Typing.Side) (n : ℕ) (bytes codes counts : List ℕ) (i : ℕ)
     (r : Bool) : Type 0 where
+  pub passed : Bool
+  pub is : r ≡ Typing.inFormIf (dictionaryOf (P .file)) side bytes codes counts passed i
   pub row : r ≡ true → getD codes i 0 < n
   pub small : r ≡ true → getD counts i 0 ≤ suc i
   pub built : (prefixes : List ℕ) → Built (withPrefixes P prefixes) n
-      → r ≡ Typing.inForm (dictionaryOf (P .file)) side bytes codes counts i
+      → passed ≡ Typing.checkAt (dictionaryOf (P .file)) side codes i
 
--- whether the records below len are in form; if so their codes are rows and their counts are small
+-- whether the records below len are in form, by the pair check's answers; if so their codes are rows and their counts are small
 pub record RecordsAre (P : PairTables) (side : Typing.Side) (n : ℕ) (bytes codes counts : List ℕ) (len : ℕ)
     (r : Bool) : Type 0 where
-  pub none-yet : len ≡ 0 → r ≡ true
+  pub passed : ℕ → Bool
+  pub is : r ≡ allBelow len (λ i. Typing.inFormIf (dictionaryOf (P .file)) side bytes codes counts (passed i) i)
   pub rows : r ≡ true → RowsTo n codes len
   pub small : r ≡ true → CountsTo counts len
   pub built : (prefixes : List ℕ) → Built (withPrefixes P prefixes) n
-      → r ≡ allBelow len (Typing.inForm (dictionaryOf (P .file)) side bytes codes counts)
+      → (i : ℕ) → passed i ≡ Typing.checkAt (dictionaryOf (P .file)) side codes i
 
 -- a row; behind true codes the code of record i, and behind true counts its count goes with it
 pub record CodeIs (P : PairTables) (side : Typing.Side) (n : ℕ) (bytes : List ℕ) (i : ℕ) (codes : List ℕ)
@@ -186,6 +190,8 @@ pub record ExtendedBy (P : PairTables) (side : Typing.Side) (n len : ℕ)
   pub codes-kept : (j : ℕ) → j < len → getD codes' j 0 ≡ getD codes j 0
   pub counts-kept : (j : ℕ) → j < len → getD counts' j 0 ≡ getD counts j 0
   pub bytes-are : (k : ℕ) → k < length typed → getD bytes' (len + k) 0 ≡ getD typed k 0
+  pub rows : RowsTo n codes' (len + length typed)
+  pub small : CountsTo counts' (len + length typed)
   pub built : (prefixes : List ℕ) → Built (withPrefixes P prefixes) n → CodesAre (P .file) side bytes codes len
       → CountsAre (P .file) side bytes counts len
       → CodesAre (P .file) side (take len bytes ++ typed) codes' (len + length typed)

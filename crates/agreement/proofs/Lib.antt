@@ -1,3 +1,4 @@
-pub mod Demand3
 pub mod Agreeing
+pub mod RoundTrip
+pub mod Demand3
 pub mod Together

@@ -1,1 +1,3 @@
 pub mod Agreement
+pub mod RoundTrip
+pub mod Demand3

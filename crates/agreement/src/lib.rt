@@ -1,5 +1,5 @@
-// The sender against the counters on one text: demand 3 as a promise about code. The whole demand is stated in
-// proofs/Demand3.antt.
+// The sender against the counters on one text: demand 3 as a promise about code. The whole demand is one record,
+// `Demand3` in specs/Demand3.antt; that decoding gives the text is `RoundTrip` in specs/RoundTrip.antt.
 ghost use Rattle.agreement.specs.Agreement.{TypedCount, Agrees};
 ghost use Rattle.tables.specs.Tables.{lent, before, after};
 use causes::Answer;

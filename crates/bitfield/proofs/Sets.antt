@@ -41,11 +41,12 @@ unfolding allSet
 all-below p h = lt-ltb p 4097 h
 
 -- clearing bit p: the word at its place is now v, that word without the bit
-module _ (ws : List ℕ) (p v : ℕ) (below : p < 4097) (cleared : wordBit v ≡ without (wordBit (getD ws (p / 64) 0)) (p % 64)) where
-  cleared-here : p / 64 < length ws → isSet (set ws (p / 64) v) p ≡ false
-  cleared-here l =
-      set-below (set ws (p / 64) v) p below
+module _ (ws : List ℕ) (p v : ℕ) (cleared : wordBit v ≡ without (wordBit (getD ws (p / 64) 0)) (p % 64)) where
+  cleared-here : p / 64 < length ws → Dec (p < 4097) → isSet (set ws (p / 64) v) p ≡ false
+  cleared-here l (yes h) =
+      set-below (set ws (p / 64) v) p h
       ∙ rw (getD-set-same ws (p / 64) v 0 l, cleared, without-same (wordBit (getD ws (p / 64) 0)) (p % 64))
+  cleared-here l (no n) = set-beyond (set ws (p / 64) v) p (omega arith)
 
   cleared-other : p / 64 < length ws → (q : ℕ) → (q ≡ p → ⊥) → Dec (q < 4097) → Dec (q / 64 ≡ p / 64) → isSet (set ws (p / 64) v) q ≡ isSet ws q
   cleared-other l q m (no n) e = set-beyond (set ws (p / 64) v) q (omega arith) ∙ sym (set-beyond ws q (omega arith))
@@ -56,16 +57,17 @@ module _ (ws : List ℕ) (p v : ℕ) (below : p < 4097) (cleared : wordBit v ≡
       rw (set-below (set ws (p / 64) v) q h, set-below ws q h, getD-set-other ws (p / 64) (q / 64) v 0 n)
 
   -- a bit of a word that is not there is not set, so the number of words does not matter
-  no-word : length ws ≤ p / 64 → isSet ws p ≡ false
-  no-word l = set-below ws p below ∙ rw (List·getD-eq-default ws 0 l) (bit-of 0 (p % 64) 0 (ap (λ (n : ℕ). n % 2) (zero-div (2 ^ (p % 64)))))
+  no-word : length ws ≤ p / 64 → Dec (p < 4097) → isSet ws p ≡ false
+  no-word l (no n) = set-beyond ws p (omega arith)
+  no-word l (yes h) = set-below ws p h ∙ rw (List·getD-eq-default ws 0 l) (bit-of 0 (p % 64) 0 (ap (λ (n : ℕ). n % 2) (zero-div (2 ^ (p % 64)))))
 
   pub cleared-set : isSet (set ws (p / 64) v) ≡ without (isSet ws) p
   cleared-set = go (decLt (p / 64) (length ws))
     where
       at : p / 64 < length ws → (q : ℕ) → Dec (q ≡ p) → isSet (set ws (p / 64) v) q ≡ without (isSet ws) p q
-      at l q (yes e) = rw (e, cleared-here l, without-same (isSet ws) p)
+      at l q (yes e) = rw (e, cleared-here l (decLt p 4097), without-same (isSet ws) p)
       at l q (no n) = cleared-other l q n (decLt q 4097) (ℕ-discrete (q / 64) (p / 64)) ∙ sym (without-other (isSet ws) p q n)
 
       go : Dec (p / 64 < length ws) → isSet (set ws (p / 64) v) ≡ without (isSet ws) p
       go (yes l) = fun-ext (λ q. at l q (ℕ-discrete q p))
-      go (no n) = let out : length ws ≤ p / 64 = omega arith in rw (set-out ws (p / 64) v out) (without-clear (isSet ws) p (no-word out))
+      go (no n) = let out : length ws ≤ p / 64 = omega arith in rw (set-out ws (p / 64) v out) (without-clear (isSet ws) p (no-word out (decLt p 4097)))

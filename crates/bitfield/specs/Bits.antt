@@ -1,6 +1,7 @@
 -- The bit set of document 01 ("Bit set"): 4,097 bits, bit p being bit p % 64 of word p / 64.
 -- A set of bits is the test of which bits are set, `ℕ → Bool`.
-use Prim.Native.Nat.{ℕ, zero, suc, _-_, _/_, _%_, _^_}
+use mathlib.Core.Path.{_≡_}
+use Prim.Native.Nat.{ℕ, zero, suc, _-_, _/_, _%_, _^_, _<_}
 use mathlib.Core.List.{List}
 use mathlib.Core.Bool.{Bool, cond, not, _&&_}
 use mathlib.Core.Option.{Option, none, some}
@@ -24,6 +25,11 @@ allSet p = ltb p 4097
 -- "clear": the set without bit p
 unfoldable pub without : (ℕ → Bool) → ℕ → ℕ → Bool
 without bits p q = not (eqb q p) && bits q
+
+-- what clearing bit p leaves: the set without it; where p is beyond the 4,097 bits, all 65 words as they were
+pub record Cleared (words : List ℕ) (p : ℕ) (words' : List ℕ) : Type 0 where
+  pub bits : isSet words' ≡ without (isSet words) p
+  pub beyond : 4096 < p → words' ≡ words
 
 -- the lowest set bit of the n from p on
 unfoldable pub lowest : (ℕ → Bool) → ℕ → ℕ → Option ℕ

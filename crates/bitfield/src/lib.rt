@@ -3,7 +3,7 @@
 ghost use mathlib.Core.Path.{_≡_};
 ghost use Prim.Native.Nat.{suc, _-_, _<_, min};
 ghost use Rattle.bitfield.specs.Bits.{wordBit, isSet, allSet, without, lowest, highest, successor, predecessor};
-ghost use Rattle.bitfield.specs.Bits.{placeOf};
+ghost use Rattle.bitfield.specs.Bits.{Cleared, placeOf};
 
 pub struct BitField {
     pub words: [u64; 65],
@@ -91,9 +91,9 @@ pub fn bit_is_set(words: &[u64; 65], bit: usize) -> bool
     word_bit(words[word_idx], bit % 64)
 }
 
-// Clears a bit; one beyond the 4,097 changes nothing.
+// Clears a bit; one beyond the 4,097 leaves every word as it was.
 pub fn clear_bit(words: &mut [u64; 65], bit: usize)
-    ensures { λ _. ⌜ isSet (now (words .exit)) ≡ without (isSet (now (words .entry))) bit ⌝ }
+    ensures { λ _. ⌜ Cleared (now (words .entry)) bit (now (words .exit)) ⌝ }
 {
     if bit < 4097 {
         let word_idx = bit / 64;
@@ -158,7 +158,7 @@ impl BitField {
     }
 
     pub fn clear(mut self, bit: usize) -> Self
-        ensures { λ r. ⌜ isSet (r .words) ≡ without (isSet (self .words)) bit ⌝ }
+        ensures { λ r. ⌜ Cleared (self .words) bit (r .words) ⌝ }
     {
         clear_bit(&mut self.words, bit);
         self

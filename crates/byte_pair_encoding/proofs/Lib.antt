@@ -3,5 +3,4 @@ pub mod Checking
 pub mod Sending
 pub mod Counting
 pub mod Promises
-pub mod RoundTrip
 pub mod PairAnswers

@@ -46,7 +46,10 @@ module _ (T : Tables) (side : Side) where
   Ensured (truncate k) m r m' = Truncated (m .len) (length (m .states)) k r (m' .len) × (m' .states ≡ m .states)
   Ensured tokenCount m r m' = TokenCounted T side (m .len) (m .states) r × (m' ≡ m)
 
-  -- each call, after a refused one too, gets the slice and the head as the call before left them
+  -- each call, after a refused one too, gets the slice and the head as the call before left them. Every list of calls
+  -- has a run: a function that is proved ends and meets its contract on every argument, so that each call has an answer
+  -- and leaves something, and the next one takes it up. That truncate and `token_count` leave the slice as it was is no
+  -- field of their contracts: it is lent to them by `&`, through which nothing is written
   abbrev pub Run : Lent → List Event → Type 0
   Run m [] = m ≡ m
   Run m (e ∷ es) = Ensured (e .call) m (e .answer) (e .after) × Run (e .after) es

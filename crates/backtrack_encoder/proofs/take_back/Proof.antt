@@ -11,7 +11,7 @@ clear-bit-requires : tie.Need-clear-bit-requires
 clear-bit-requires c κs = search needs
 
 returns : tie.Need-returns
-returns c = back-none _ _ _ _ _ _ _ _ (c .before .before .before .before .before .before .before .before .pre .0 .0) (c .before .before .before .before .before .before .before .before .pre .1) (c .before .before .clear-bit .ensures) (c .if1 .taken)
+returns c = back-none _ _ _ _ _ _ _ _ (c .before .before .before .before .before .before .before .before .pre .0 .0) (c .before .before .before .before .before .before .before .before .pre .1) (c .before .before .clear-bit .ensures .bits) (c .if1 .taken)
 
 sub-count : tie.Need-sub-count
 sub-count c = search needs
@@ -29,10 +29,10 @@ length-of-requires : tie.Need-length-of-requires
 length-of-requires c κs = (c .before .before .before .before .before .before .before .before .before .before .before .pre .0 .0 .placed, omega (arith, c .wide .ensures .is, c .before .before .before .before .before .before .before .before .before .before .before .pre .1 .codes (c .before .before .before .before .before .before .before .before .before .before .before .args .encoder .count - 1) (omega (arith, c .before .before .before .if1 .left))))
 
 sub-pos : tie.Need-sub-pos
-sub-pos c = back-pos _ _ _ _ _ _ _ _ (c .before .before .before .before .before .before .before .before .before .before .before .before .before .pre .0 .0) (c .before .before .before .before .before .before .before .before .before .before .before .before .before .pre .1) (c .before .before .before .before .before .before .before .clear-bit .ensures) (c .before .before .before .before .before .if1 .left) _ _ (c .before .before .wide .ensures) (c .before .length-of .ensures)
+sub-pos c = back-pos _ _ _ _ _ _ _ _ (c .before .before .before .before .before .before .before .before .before .before .before .before .before .pre .0 .0) (c .before .before .before .before .before .before .before .before .before .before .before .before .before .pre .1) (c .before .before .before .before .before .before .before .clear-bit .ensures .bits) (c .before .before .before .before .before .if1 .left) _ _ (c .before .before .wide .ensures) (c .before .length-of .ensures)
 
 returns-2 : tie.Need-returns-2
-returns-2 c = back-last _ _ _ _ _ _ _ _ (c .before .before .before .before .before .before .before .before .before .before .before .before .before .pre .0 .0) (c .before .before .before .before .before .before .before .before .before .before .before .before .before .pre .1) (c .before .before .before .before .before .before .before .clear-bit .ensures) (c .before .before .before .before .before .if1 .left) _ _ (c .before .before .wide .ensures) (c .before .length-of .ensures)
+returns-2 c = back-last _ _ _ _ _ _ _ _ (c .before .before .before .before .before .before .before .before .before .before .before .before .before .pre .0 .0) (c .before .before .before .before .before .before .before .before .before .before .before .before .before .pre .1) (c .before .before .before .before .before .before .before .clear-bit .ensures .bits) (c .before .before .before .before .before .if1 .left) _ _ (c .before .before .wide .ensures) (c .before .length-of .ensures)
 
 pub take-back-spec : {M : Type 1} → statement M
 take-back-spec =

@@ -1,4 +1,5 @@
--- `clear_bit` meets its contract: one word is now without the bit, or the bit was not set (proofs/Sets.antt, proofs/Without.antt). Assumes nothing.
+-- `clear_bit` meets its contract: one word is now without the bit, or no word has changed (proofs/Sets.antt, proofs/Without.antt). Assumes nothing.
+use mathlib.Core.Path.{refl}
 use native.Mathlib.Omega.{arith}
 use borrow.Author.Needs.{needs}
 use Rattle.bitfield.proofs.Without.{without-clear}
@@ -22,10 +23,10 @@ element-write-words : tie.Need-element-write-words
 element-write-words c = search needs
 
 returns : tie.Need-returns
-returns c = cleared-set _ _ _ (omega arith) (c .word-without .ensures)
+returns c = record { bits = cleared-set _ _ _ (c .word-without .ensures); beyond = λ h. absurd (omega arith) }
 
 returns-2 : tie.Need-returns-2
-returns-2 c = without-clear _ _ (set-beyond _ _ (omega arith))
+returns-2 c = record { bits = without-clear _ _ (set-beyond _ _ (omega arith)); beyond = λ h. refl }
 
 pub clear-bit-spec : {M : Type 1} → statement M
 clear-bit-spec =

@@ -1,5 +1,6 @@
 //! Prints one table: each call, ours and the Rust's, in nanoseconds, on three files and three sizes of text, and on the
-//! worst texts. Both run in turns, and the best of several rounds counts. `bench [ROUNDS [WORD]]`: only the calls whose name has the word.
+//! worst texts. Both run in turns, and the best of several rounds counts.
+//! `bench [ROUNDS [WORD [FILE]]]`: only the calls whose name has the word, and the same figures as CSV into the file.
 use aneubeck_daachorse::{DoubleArrayAhoCorasick, DoubleArrayAhoCorasickBuilder, MatchKind};
 use beside::encoders::{Encoder, ENCODERS};
 use beside::files;
@@ -8,9 +9,14 @@ use beside::text::{digits, Language};
 use original::byte_pair_encoding::BytePairEncoding;
 use ours::measured::Checked;
 use ours::{Buffers, Tables, AREA, NONE};
+use report::{Figure, Report};
+use std::fs::File;
 use std::hint::black_box;
+use std::io::{self, Write};
 use std::time::Instant;
 
+#[path = "bench/report.rs"]
+mod report;
 #[path = "bench/typing.rs"]
 mod typing;
 
@@ -25,7 +31,8 @@ const ROUND: f64 = 300_000.0;
 /// A call in its two forms; the time is divided by `per`.
 struct Call<'a> {
     name: String,
-    text: Option<usize>,
+    /// Bytes of a text, and how many texts.
+    text: Option<(usize, usize)>,
     per: usize,
     /// How often our side checks the tables.
     checks: usize,
@@ -52,8 +59,14 @@ impl<'a> Call<'a> {
 
     /// On a text of so many bytes.
     fn text(mut self, size: usize) -> Self {
-        self.text = Some(size);
+        self.text = Some((size, 1));
         self
+    }
+
+    /// On so many texts of so many bytes in turn, the tables checked for each.
+    fn turns(mut self, size: usize, texts: usize) -> Self {
+        self.text = Some((size, texts));
+        self.run(texts, texts)
     }
 
     /// A loop over core lookups, which check nothing.
@@ -128,24 +141,6 @@ fn measure(call: &mut Call, tables: Tables, rounds: usize) -> Times {
     Times { ours: figure(best[0]), rust: figure(best[1]), check }
 }
 
-fn shown(time: Option<f64>) -> String {
-    match time {
-        None => String::new(),
-        Some(t) if t < 100.0 => format!("{t:.1}"),
-        Some(t) => {
-            let digits = format!("{t:.0}");
-            let mut text = String::new();
-            for (i, c) in digits.chars().enumerate() {
-                if i > 0 && (digits.len() - i) % 3 == 0 {
-                    text.push(',');
-                }
-                text.push(c);
-            }
-            text
-        }
-    }
-}
-
 /// A file with our tables and the original's.
 struct Sheet {
     name: &'static str,
@@ -192,13 +187,13 @@ fn lend<'a>(tables: &'a mut [Vec<u32>; 4], area: &'a mut [u32]) -> Buffers<'a> {
 }
 
 /// The build. What the original's searchers cost depends on the stand-in, so they are shown apart.
-fn builds(sheet: &Sheet, rounds: usize) {
+fn builds(sheet: &Sheet, report: &mut Report) {
     let mut tables = sheet.tables.clone();
     let mut area = sheet.area.clone();
     let mut ours = f64::INFINITY;
     let mut rust = f64::INFINITY;
     let mut searchers = f64::INFINITY;
-    for _ in 0..rounds {
+    for _ in 0..report.rounds {
         for _ in 0..4 {
             let start = Instant::now();
             let answer = ours::from_dictionary(&sheet.file, sheet.factor, lend(&mut tables, &mut area));
@@ -219,33 +214,12 @@ fn builds(sheet: &Sheet, rounds: usize) {
         searchers = searchers.min(start.elapsed().as_nanos() as f64);
         drop((longest, all, all_reversed));
     }
-    line("from_dictionary", sheet, None, Some(ours), None, Some(ours), Some(rust));
-    let without = Some(rust - searchers);
-    line("the same, without the Rust's searchers", sheet, None, Some(ours), None, Some(ours), without);
-}
-
-fn line(
-    name: &str,
-    sheet: &Sheet,
-    text: Option<usize>,
-    public: Option<f64>,
-    check: Option<f64>,
-    core: Option<f64>,
-    rust: Option<f64>,
-) {
-    let ratio = match (core, rust) {
-        (Some(core), Some(rust)) => format!("{:.2}", core / rust),
-        _ => String::new(),
+    let mut add = |call: &str, rust| {
+        let (call, ours) = (call.to_string(), Some(ours));
+        report.add(Figure { call, file: sheet.name, public: ours, core: ours, rust: Some(rust), ..Figure::default() });
     };
-    let text = text.map(|size| shown(Some(size as f64))).unwrap_or_default();
-    println!(
-        "| {name} | {} | {text} | {} | {} | {} | {} | {ratio} |",
-        sheet.name,
-        shown(public),
-        shown(check),
-        shown(core),
-        shown(rust)
-    );
+    add("from_dictionary", rust);
+    add("from_dictionary, without the Rust's searchers", rust - searchers);
 }
 
 fn total(list: &[u32]) -> u64 {
@@ -385,7 +359,8 @@ fn text_calls<'a>(sheet: &'a Sheet, text: &'a [u8]) -> Vec<Call<'a>> {
     calls
 }
 
-/// The encoders on many texts in turn: the branches of one text that is encoded again and again are foreseen better than those of a text that comes once.
+/// The encoders on many texts in turn: the branches of one text that is encoded again and again are foreseen better
+/// than those of a text that comes once.
 fn turns<'a>(sheet: &'a Sheet, texts: &'a [Vec<u8>]) -> Vec<Call<'a>> {
     let tables = sheet.tables();
     let rust = &sheet.rust;
@@ -393,30 +368,43 @@ fn turns<'a>(sheet: &'a Sheet, texts: &'a [Vec<u8>]) -> Vec<Call<'a>> {
     let encoder = |Encoder { name, ours, rust: theirs, .. }| {
         let (mut out, mut work) = (vec![0; size], vec![0; size]);
         let mut count = move |text: &[u8]| u64::from(ours(&tables, text, &mut out, &mut work).unwrap());
-        Call::new(format!("{name}, {} texts in turn", texts.len()))
-            .text(size)
-            .run(texts.len(), texts.len())
+        Call::new(name)
+            .turns(size, texts.len())
             .ours(move || texts.iter().map(|text| count(text)).sum())
             .rust(move || texts.iter().map(|text| theirs(rust, text).len() as u64).sum())
     };
     ENCODERS.into_iter().map(encoder).collect()
 }
 
-/// Measures calls and prints their lines.
-fn lines(sheet: &Sheet, calls: Vec<Call>, rounds: usize, only: &str) {
+/// Measures the calls that are wanted.
+fn figures(sheet: &Sheet, calls: Vec<Call>, report: &mut Report) {
     for mut call in calls {
-        if !call.name.contains(only) {
+        let file = sheet.name;
+        let mut figure = Figure { call: call.name.clone(), file, text: call.text, ..Figure::default() };
+        if !report.wants(&figure.name()) {
             continue;
         }
-        let times = measure(&mut call, sheet.tables(), rounds);
-        if call.core {
-            line(&call.name, sheet, call.text, None, None, times.core(), times.rust);
-        } else if call.checks > 0 {
-            let check = times.ours.map(|_| times.check);
-            line(&call.name, sheet, call.text, times.ours, check, times.core(), times.rust);
-        } else {
-            line(&call.name, sheet, call.text, None, None, times.ours, times.rust);
+        let times = measure(&mut call, sheet.tables(), report.rounds);
+        figure.rust = times.rust;
+        figure.core = if call.checks > 0 { times.core() } else { times.ours };
+        if call.checks > 0 && !call.core {
+            figure.public = times.ours;
+            figure.check = Some(times.check);
         }
+        report.add(figure);
+    }
+}
+
+/// The check of the tables, as a call and for each row.
+fn checks(sheet: &Sheet, report: &mut Report) {
+    let name = "check of the tables (num_tokens)";
+    if !report.wants(name) {
+        return;
+    }
+    let check = measure(&mut Call::new(name), sheet.tables(), report.rounds).check;
+    for (call, time) in [(name, check), ("check of the tables, a row", check / sheet.rows.len() as f64)] {
+        let (call, time) = (call.to_string(), Some(time));
+        report.add(Figure { call, file: sheet.name, public: time, check: time, ..Figure::default() });
     }
 }
 
@@ -435,6 +423,11 @@ fn main() {
     let mut words = std::env::args().skip(1);
     let rounds = words.next().map(|w| w.parse().expect("a number of rounds")).unwrap_or(40);
     let only = words.next().unwrap_or_default();
+    let csv: Box<dyn Write> = match words.next() {
+        Some(path) => Box::new(File::create(&path).expect(&path)),
+        None => Box::new(io::sink()),
+    };
+    let mut report = Report { rounds, only, csv };
     let language = Language::new(1, 6000);
     let english = language.text(2, SIZES[2]);
     let sheets = [
@@ -442,23 +435,13 @@ fn main() {
         Sheet::new("1,356 rows, grid", files::grid(), digits(2, SIZES[2])),
         Sheet::new("4,096 rows", files::trained(&language, 4096), english),
     ];
-    println!("ns, best of {rounds} rounds; core is public minus check; the ratio is core to Rust\n");
-    println!("| call | file | text | ours, public | check | ours, core | Rust | ratio |");
-    println!("|---|---|---|---|---|---|---|---|");
+    report.begin();
     let words: Vec<_> = (0..TEXTS).map(|k| language.text(3 + k as u64, SIZES[2])).collect();
     let numbers: Vec<_> = (0..TEXTS).map(|k| digits(3 + k as u64, SIZES[2])).collect();
     for (sheet, texts) in sheets.iter().zip([&words, &numbers, &words]) {
-        let n = sheet.rows.len() as f64;
-        let tables = sheet.tables();
-        let name = "check of the tables (num_tokens)";
-        if name.contains(&only) {
-            let check = Some(measure(&mut Call::new(name), tables, rounds).check);
-            line(name, sheet, None, check, check, None, None);
-            let row = check.map(|t| t / n);
-            line("the same, a row", sheet, None, row, row, None, None);
-        }
-        if "from_dictionary".contains(&only) {
-            builds(sheet, rounds);
+        checks(sheet, &mut report);
+        if report.wants("from_dictionary") {
+            builds(sheet, &mut report);
         }
         let mut calls = table_calls(sheet);
         calls.extend(lookups(sheet));
@@ -468,9 +451,9 @@ fn main() {
         }
         calls.extend(typing::pushes(sheet));
         calls.extend(turns(sheet, texts));
-        lines(sheet, calls, rounds, &only);
+        figures(sheet, calls, &mut report);
     }
     for sheet in worst() {
-        lines(&sheet, text_calls(&sheet, &sheet.text), rounds, &only);
+        figures(&sheet, text_calls(&sheet, &sheet.text), &mut report);
     }
 }

@@ -1,5 +1,6 @@
 // Sending and counting by backtracking: the source's backtrack_encoder.rs, and the functions of byte_pair_encoding.rs
-// that run it.
+// that run it. The codes stand in the work buffer while they change and are copied to the output at the end, since
+// document 01 wants output beyond the answer unchanged.
 ghost use mathlib.Core.Path.{_≡_};
 ghost use mathlib.Core.List.{List, _++_};
 ghost use Prim.Native.Nat.{ℕ, _+_, _^_, _-_, _<_, _≤_, min};

@@ -1,5 +1,6 @@
 // Why a call is refused, for all calls, and what calls answer. An answer's number is 0 if it is no refusal, and its
-// place is then its value.
+// place is then its value. Every call that can be refused promises by one record, `Call` in specs/, so that it states
+// only its conditions and what it gives.
 ghost use mathlib.Core.Path.{_≡_};
 ghost use Rattle.causes.specs.Causes.{refusalOf, buildAnswerOf, answerOf, pairAnswerOf, limitAnswerOf};
 

@@ -1,4 +1,5 @@
-// The lowest row with the hash of an earlier row, found by a table of hashes in a scratch buffer.
+// The lowest row with the hash of an earlier row, found by a table of hashes in a scratch buffer. Document 02 calls
+// this a clash, hence the name.
 ghost use mathlib.Core.Path.{_≡_};
 ghost use Prim.Native.Nat.{_%_, _<_, _≤_};
 ghost use lib.ListN.{length};

@@ -1,4 +1,5 @@
-// Decoding: the bytes that codes spell, as document 01's `decode_tokens` and `token_bytes` give them.
+// Decoding: the bytes that codes spell, as document 01's `decode_tokens` and `token_bytes` give them. `token_bytes` is
+// decoding the list of its one code, so that both have one contract.
 ghost use mathlib.Core.Path.{_≡_};
 ghost use mathlib.Core.List.{[], _∷_, _++_};
 ghost use lib.ListN.{length, take, drop};

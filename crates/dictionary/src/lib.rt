@@ -1,4 +1,5 @@
-// Build: from the phrase file to the tables and the search area.
+// Build: from the phrase file to the tables and the search area. What it stands on is split into small crates, because
+// a must-fail edit proves its whole crate again.
 ghost use mathlib.Core.Path.{_≡_};
 ghost use mathlib.Core.Bool.{false};
 ghost use Prim.Native.Nat.{_≤_};

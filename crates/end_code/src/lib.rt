@@ -1,6 +1,7 @@
-// The end code of a text with one byte more, where those of the shorter texts are known: the last code where bytes
-// are typed at its end, the first code where they are typed at its front. From the byte's own row on, rows are joined
-// as the merge procedure joins them; no text is searched for rows.
+// The end code of a text with one byte more, where those of the shorter texts are known: the last code where bytes are
+// typed at its end, the first code where they are typed at its front. From the byte's own row on, rows are joined as
+// the merge procedure joins them; no text is searched for rows. `FirstJoin` of `theory` is the definition. The side is
+// a bool here and an enum in `typing_columns`: one enum for both would move proofs of both for no promise.
 ghost use mathlib.Core.Path.{_≡_};
 ghost use Prim.Native.Nat.{_<_};
 ghost use lib.ListN.{length};

@@ -1,4 +1,6 @@
-// The front of the search area: the rows of a phrase file as a forest under "next shorter prefix".
+// The front of the search area: the rows of a phrase file as a forest under "next shorter prefix". The bucket is a
+// multiple of the prefix's number plus the next byte, so that the byte in a word tells the prefix. Rows go in by rising
+// length, so that a row one byte longer than its prefix, first in its bucket, takes one load and one comparison.
 ghost use mathlib.Core.Path.{_≡_};
 ghost use mathlib.Core.Bool.{true};
 ghost use Prim.Native.Nat.{_+_, _-_, _%_, _<_, _≤_};

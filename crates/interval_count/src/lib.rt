@@ -1,4 +1,6 @@
-// The count of an interval of a prepared text: the second part of the source's interval_encoding.rs.
+// The count of an interval of a prepared text: the second part of the source's interval_encoding.rs. Interval tables
+// that are too short are out of form here (8), since they are only read; in preparation, which is to fill them, they
+// are too short (7).
 ghost use mathlib.Core.Path.{_≡_};
 ghost use Prim.Native.Nat.{_-_};
 ghost use lib.ListN.{length, getD};

@@ -1,5 +1,6 @@
 // A Bloom filter in the search area: two bits of one number for each key, and where both are clear the key is marked. A
-// key that is not marked needs no look-up.
+// key that is not marked needs no look-up. Marks are clear bits because a run of NONE then has nothing marked: one fill
+// empties buckets, names and marks.
 ghost use mathlib.Core.Path.{_≡_};
 ghost use Prim.Native.Nat.{_+_, _/_, _<_, _≤_};
 ghost use lib.ListN.{length};

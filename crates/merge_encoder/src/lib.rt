@@ -1,8 +1,10 @@
-// The merge procedure over tables: each byte alone at first, then for each row, in their order, the neighbours that
-// are the row's parts are joined, from left to right. A code stands in `work` at the place where its bytes begin. The
-// live places are the set bits of 65 words. The key of a live place is the row that has its code and the next one as
-// its parts, or NONE. Each row has a queue of the places whose key it is or was: `heads` has the newest entry of each
-// queue, and an entry of `pool` is the next older entry times 4,096, and a place. Entry 0 ends a queue.
+// The merge procedure over tables: each byte alone at first, then for each row, in their order, the neighbours that are
+// the row's parts are joined, from left to right. A code stands in `work` at the place where its bytes begin. The live
+// places are the set bits of 65 words. The key of a live place is the row that has its code and the next one as its
+// parts, or NONE. Each row has a queue of the places whose key it is or was: `heads` has the newest entry of each
+// queue, and an entry of `pool` is the next older entry times 4,096, and a place. Entry 0 ends a queue. A queue may
+// have places that are no longer right: each is asked again at its turn, so that no order of a queue has to be proved.
+// The codes stand in `work` while they change, since document 01 wants output beyond the answer unchanged.
 ghost use mathlib.Core.Path.{_≡_};
 ghost use Prim.Native.Nat.{_≤_, _<_};
 ghost use lib.ListN.{length, getD};

@@ -1,6 +1,7 @@
 // The C interface: every public call under the name `bpe_` and the call's name. A slice arrives as a pointer and a
 // length in elements. Each returns one number: the cause's number (0 for an answer) times 2^32, plus the place or the
-// answer's number.
+// answer's number. It is a number because an exported call cannot return an enum. The side of the typing calls is a
+// number too, of which any but 0 prepends, so that no refusal is needed for one without a meaning.
 ghost use mathlib.Core.Path.{_≡_};
 ghost use mathlib.Core.List.{[], _∷_};
 ghost use Rattle.causes.specs.declared.Answer.{Answer};

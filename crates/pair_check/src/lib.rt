@@ -1,4 +1,7 @@
-// The pair check: whether two codes may stand beside each other.
+// The pair check: whether two codes may stand beside each other. A row counts only below the number of rows whose parts
+// are known, so that the check holds in the middle of a build too. Two codes whose seam no row has pass at once:
+// undoing keeps the two bytes at the seam, so a join on the way would have it. The row that the search area names for
+// two codes is asked whether they are its parts, so that a wrong name costs time and no answer depends on it.
 ghost use mathlib.Core.Path.{_≡_};
 ghost use Prim.Native.Nat.{_≤_, _<_};
 ghost use lib.ListN.{length};

@@ -1,4 +1,5 @@
-// The phrase file: its records are found, counted and checked, and their places written to a table.
+// The phrase file: its records are found, counted and checked, and their places written to a table. The length is
+// looked at before the records, so that a file that is too long is told so whatever else is wrong with it.
 ghost use mathlib.Core.Path.{_≡_};
 ghost use mathlib.Core.List.{_++_};
 ghost use mathlib.Core.Bool.{false};

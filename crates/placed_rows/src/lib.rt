@@ -1,4 +1,5 @@
-// The rows of a phrase file, read through the table of places, and texts read from the front or from the back.
+// The rows of a phrase file, read through the table of places, and texts read from the front or from the back. NONE is
+// handed on from `theory`, which stands below everything that speaks of rows, so that there is one definition of it.
 ghost use mathlib.Core.Path.{_≡_};
 ghost use Prim.Native.Nat.{ℕ, _<_};
 ghost use lib.ListN.{length};

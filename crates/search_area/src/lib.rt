@@ -1,5 +1,8 @@
 // Lookups in the search area. They are safe and end on any contents of the area; they are right where the area finds
-// every row.
+// every row. They are lent the whole area and a place of the text, since a slice that is made and handed on costs more
+// than the look-up. The first row at a place is that of its byte, and for this `Finds` says that each byte has a row.
+// None gives the rows that end at a place, which the Rust's table encoder asks for: the end code is found by joins
+// (`end_code`).
 ghost use mathlib.Core.Path.{_≡_};
 ghost use Prim.Native.Nat.{ℕ, _+_, _<_, _≤_};
 ghost use lib.ListN.{length, drop};

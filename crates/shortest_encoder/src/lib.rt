@@ -1,4 +1,6 @@
-// The fewest codes of a text, and the longest row at each place: the cores of `encode_minimal` and `encode_greedy`.
+// The fewest codes of a text, and the longest row at each place: the cores of `encode_minimal` and `encode_greedy`. An
+// entry of the work buffer has the count of codes, 64 minus the row's length and the row, in this order, so that the
+// least entry of a place is the one that document 01 wants of a tie.
 ghost use mathlib.Core.Path.{_≡_};
 ghost use Prim.Native.Nat.{ℕ, _≤_, _<_, min};
 ghost use lib.ListN.{length, drop};

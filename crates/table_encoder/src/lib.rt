@@ -1,4 +1,5 @@
-// The last code of each prefix of a text, and the codes of the text walked from the end.
+// The last code of each prefix of a text, and the codes of the text walked from the end. The codes are counted before
+// they are written, since document 01 wants output beyond the answer unchanged.
 ghost use mathlib.Core.Path.{_≡_};
 ghost use mathlib.Core.List.{_++_};
 ghost use Prim.Native.Nat.{_-_};

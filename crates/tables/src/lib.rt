@@ -1,4 +1,5 @@
-// Whether dictionary tables are in form, as document 01 defines it, and the calls that need no more than that.
+// Whether dictionary tables are in form, as document 01 defines it, and the calls that need no more than that. No more
+// is asked than it says: a prefix need not begin its row, and equal or clashing rows are in form.
 ghost use mathlib.Core.Path.{_≡_};
 ghost use Prim.Native.Nat.{_<_};
 ghost use Rattle.tables.specs.Tables.{lent};

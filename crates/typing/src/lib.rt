@@ -1,6 +1,8 @@
-// Typing records in a lent slice and a head that is lent. The records are copied into columns, `typing_core` works on
-// these, and the records added are stored. The functions with a reference to records or to the head move whole values
-// and call functions by value.
+// Typing records in a lent slice and a head that is lent. The records are copied into columns, `typing_columns` works
+// on these, and the records added are stored. The functions with a reference to records or to the head move whole
+// values and call functions by value. Only these need proofs that tools/carry makes, from twins on arrays: by hand each
+// would have to be walked again when a record gains a field. The direction is an argument, so that appending and
+// prepending share each function and each proof.
 ghost use mathlib.Core.Path.{_≡_};
 ghost use mathlib.Core.List.{[], _∷_};
 ghost use Prim.Native.Nat.{min};

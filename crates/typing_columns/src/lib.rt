@@ -1,6 +1,7 @@
 // Typing over columns, in both directions. Byte, code and count of each record stand in three buffers. Bytes stand in
 // the order in which they were typed; in prepending the text is read from a fourth buffer, `reading`, in which they
-// stand from the end back.
+// stand from the end back. The direction is a parameter, and prepending the same definition over the reversed text, so
+// that one proof serves both. After a refusal the columns are scratch, since `typing` keeps the records whole.
 ghost use mathlib.Core.Path.{_≡_};
 ghost use lib.ListN.{length};
 ghost use Rattle.built_tables.specs.Built.{dictionaryOf};

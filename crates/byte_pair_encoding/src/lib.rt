@@ -1,5 +1,7 @@
-// Sending and counting: each call checks its arguments, and then runs the encoder over tables in form. The public pair
-// check is in pairs.rt.
+// Sending and counting: each call checks its arguments, and then runs the encoder over tables in form. The five public
+// encoders are one private `encode` with the encoder as an argument, so that there is one proof of the refusals and one
+// of the answers. `encode_greedy` takes and checks a work buffer that it does not need, because document 01 asks it of
+// all encoders. The public pair check is in pairs.rt.
 mod pairs;
 
 pub use pairs::is_valid_token_pair;

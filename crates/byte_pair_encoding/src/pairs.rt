@@ -1,4 +1,5 @@
-// The public pair check: whether two codes may stand beside each other.
+// The public pair check: whether two codes may stand beside each other. It has no text and no buffer, so 9 and 7 cannot
+// apply; 10 has index 0 for the left code and 1 for the right.
 ghost use Rattle.byte_pair_encoding.specs.Pair.{PairChecked};
 ghost use Rattle.tables.specs.Tables.{lent};
 use causes::Cause;

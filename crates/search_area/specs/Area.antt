@@ -1,5 +1,5 @@
 -- The search area, of 16,384 numbers: its first 12,544 list the rows; the others are hints and marks of seams and
--- pairs (crate token_pair).
+-- pairs (crate `pair_check`).
 use mathlib.Core.Path.{_≡_}
 use mathlib.Core.List.{List, [], _∷_}
 use mathlib.Core.Bool.{Bool}

@@ -1,8 +1,10 @@
 // Works through the edges of the bit set and the published vectors of the hash.
 mod bits;
+mod published;
 mod vectors;
 
 fn main() {
     bits::work_through();
+    published::work_through();
     vectors::work_through();
 }

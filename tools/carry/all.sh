@@ -8,7 +8,7 @@ room=target/carry
 
 # what the tools write, of the crates in a folder
 made() {
-    (cd "$1" && find typing/proofs nahypora/proofs -type f \( -path '*/Proof/Lts.antt' -o -path '*/Proof/Tie.antt' \
+    (cd "$1" && find typing/proofs nahypora/proofs typing_samples/proofs -type f \( -path '*/Proof/Lts.antt' -o -path '*/Proof/Tie.antt' \
         -o -path '*/Carried/*' -o -name Carried.antt -o -name '*Kit.antt' \) | LC_ALL=C sort)
 }
 
@@ -17,7 +17,7 @@ rm -rf $room
 mkdir -p $room/crates
 cp crates.txt $room/
 for crate in crates/*; do ln -s "$top/$crate" "$room/$crate"; done
-for crate in typing nahypora; do
+for crate in typing nahypora typing_samples; do
     rm $room/crates/$crate
     cp -R crates/$crate $room/crates/$crate
 done
@@ -29,6 +29,9 @@ sh "$top/tools/carry/carry.sh" typing copy_out store_all truncate token_count ex
 echo "carrying the exported calls ..."
 sh "$top/tools/carry/carry_over.sh" nahypora typing typing_calls/bpe_push typing_calls/bpe_extend \
     typing_calls/bpe_truncate typing_calls/bpe_token_count
+echo "carrying the refusals of typing ..."
+sh "$top/tools/carry/carry_over.sh" typing_samples typing typing_refusals/fill typing_refusals/holds
+sh "$top/tools/carry/carry_over.sh" typing_samples typing typing_refusals/do_calls
 rt fmt > /dev/null
 cd "$top"
 

@@ -1,8 +1,11 @@
 // Typing and intervals over the phrase file E of document 01: its cases P4 to P7, and whole texts against `count`. A
-// line on a whole text says how many counts were compared and how many differed.
+// line on a whole text says how many counts were compared and how many differed. Then every refusal of the typing calls
+// and of the interval calls.
+mod interval_refusals;
 mod intervals;
 mod said;
 mod texts;
+mod typing_refusals;
 mod typing_texts;
 
 use intervals::all_pieces;
@@ -172,6 +175,41 @@ fn count_pieces(
     );
 }
 
+// The refusals, in both directions of typing and of intervals.
+fn refuse(
+    file: &[u8],
+    places: &[u32],
+    lefts: &[u32],
+    rights: &[u32],
+    prefixes: &[u32],
+    area: &[u32],
+) {
+    let ones = [1u8; 4097];
+    typing_refusals::say_side(
+        b"append: records, length, record out of form, search area, bytes\n",
+        Side::Append,
+        file,
+        places,
+        lefts,
+        rights,
+        prefixes,
+        area,
+        &ones,
+    );
+    typing_refusals::say_side(
+        b"prepend: records, length, record out of form, search area, bytes\n",
+        Side::Prepend,
+        file,
+        places,
+        lefts,
+        rights,
+        prefixes,
+        area,
+        &ones,
+    );
+    interval_refusals::say_refusals(file, places, lefts, rights, prefixes, area, &ones);
+}
+
 // All of it over tables that were built.
 fn work(
     file: &[u8],
@@ -185,6 +223,7 @@ fn work(
     intervals::say_samples(file, places, lefts, rights, prefixes, area);
     type_long(file, places, lefts, rights, prefixes, area);
     count_pieces(file, places, lefts, rights, prefixes, area);
+    refuse(file, places, lefts, rights, prefixes, area);
 }
 
 fn main() {

@@ -30,6 +30,22 @@ pub(crate) fn say_answer(name: &[u8], answer: Answer) {
     say(b"\n");
 }
 
+// The number and the place of the answer of a call.
+pub(crate) fn say_call(name: &[u8], answer: Answer) {
+    say(name);
+    say_field(wide(causes::answer_number(answer)));
+    say_field(causes::answer_place(answer));
+}
+
+// Whether what was lent is as before.
+pub(crate) fn say_kept(kept: bool) {
+    if kept {
+        say(b", as before");
+    } else {
+        say(b", CHANGED");
+    }
+}
+
 pub(crate) fn say_tally(name: &[u8], tally: Tally) {
     say(name);
     say(b" compared");

@@ -1,4 +1,4 @@
-// The phrase file E of document 01, and the texts to type.
+// The phrase file E of document 01, the texts to type, and parts of texts and buffers.
 use words::put;
 
 // A text, or its mirror: the same bytes from the end back.
@@ -86,4 +86,13 @@ pub(crate) fn back(s: &[u8], k: usize) -> &[u8] {
     }
     let from = s.len() - k;
     &s[from..]
+}
+
+// The first k numbers of a buffer to write to, or all if there are fewer.
+pub(crate) fn lent(buffer: &mut [u32], k: usize) -> &mut [u32] {
+    if buffer.len() < k {
+        buffer
+    } else {
+        &mut buffer[0..k]
+    }
 }

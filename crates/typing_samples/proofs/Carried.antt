@@ -1,0 +1,2 @@
+pub mod typing_refusals_fill
+pub mod typing_refusals_holds

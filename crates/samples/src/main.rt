@@ -1,6 +1,8 @@
 // Works through the list of commands on standard input: phrase files, builds, encoders, counters, decoding. Each
 // command that calls the library prints its answer, and whether the lent buffers hold what document 01 says beside
-// it. README.md lists the commands, and says where the list and what must be printed for it come from.
+// it. README.md lists the commands, and says where the list and what must be printed for it come from. Edges of the
+// phrase file are lines of the list and not a program of their own, because programs take more of the gate's proofs
+// than the library.
 mod building;
 mod canary;
 mod fields;

@@ -1,6 +1,7 @@
 // Typing and intervals over the phrase file E of document 01: its cases P4 to P7, and whole texts against `count`. A
-// line on a whole text says how many counts were compared and how many differed. Then every refusal of the typing calls
-// and of the interval calls.
+// line on a whole text says how many counts were compared and how many differed. Pieces are typed over columns, because
+// a function over records that types in pieces cost thousands of lines of carried proof. Then every refusal of the
+// typing calls and of the interval calls.
 mod interval_refusals;
 mod intervals;
 mod said;

@@ -1,8 +1,8 @@
 // The bit set of the source's bitfield.rs: 4,097 bits, all set at first; bit p is bit p % 64 of word p / 64.
-// The functions over `&[u64; 65]` do the work and copy no words; the encoders call them. The methods take the bit set by
-// value, as document 01 has them, and copy its 520 bytes: clearing a bit and finding the next set one takes some 35 to 50
-// ns by the methods and 2 to 3 by the functions. The searches answer an enum and not a number with a value for none, so
-// that no place can pass as none.
+// The functions over `&[u64; 65]` do the work and copy no words; the encoders call them. The methods take the bit set
+// by value, as document 01 has them, and copy its 520 bytes: clearing a bit and finding the next set one takes some 35
+// to 50 ns by the methods and 2 to 3 by the functions. The searches answer an enum and not a number with a value for
+// none, so that no place can pass as none.
 ghost use mathlib.Core.Path.{_≡_};
 ghost use Prim.Native.Nat.{suc, _-_, _<_, min};
 ghost use Rattle.bitfield.specs.Bits.{wordBit, isSet, allSet, without, lowest, highest, successor, predecessor};

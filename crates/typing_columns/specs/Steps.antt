@@ -88,7 +88,8 @@ pub record FollowsIs (P : PairTables) (side : Typing.Side) (n : ℕ) (codes : Li
   pub is : r ≡ followsIf (dictionaryOf (P .file)) passed i c
   pub built : (prefixes : List ℕ) → Built (withPrefixes P prefixes) n
       → passed
-      ≡ Typing.passesBeside (dictionaryOf (P .file)) side (getD codes (i - length (dictionaryOf (P .file) .bytes c)) 0) c
+      ≡ Typing.passesBeside (dictionaryOf (P .file)) side
+      (getD codes (i - length (dictionaryOf (P .file) .bytes c)) 0) c
 
 -- row c at place i behind small counts
 pub record CountReady (file places : List ℕ) (n : ℕ) (counts : List ℕ) (i c : ℕ) : Type 0 where
@@ -126,7 +127,8 @@ pub record RecordIs (P : PairTables) (side : Typing.Side) (n : ℕ) (bytes codes
   pub built : (prefixes : List ℕ) → Built (withPrefixes P prefixes) n
       → passed ≡ Typing.checkAt (dictionaryOf (P .file)) side codes i
 
--- whether the records below len are in form, by the pair check's answers; if so their codes are rows and their counts are small
+-- whether the records below len are in form, by the pair check's answers; if so their codes are rows and their counts
+-- are small
 pub record RecordsAre (P : PairTables) (side : Typing.Side) (n : ℕ) (bytes codes counts : List ℕ) (len : ℕ)
     (r : Bool) : Type 0 where
   pub passed : ℕ → Bool

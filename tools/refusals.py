@@ -1,6 +1,7 @@
 #!/usr/bin/env python3
-"""refusals.py : what typing_samples must print of the refusals, from document 01's causes and their order alone. The cases
-are those of crates/typing_samples/src/typing_refusals.rt and interval_refusals.rt; the lines are the end of that crate's stdout:
+"""refusals.py : what typing_samples must print of the refusals, from document 01's causes and their order alone. The
+cases are those of typing_refusals.rt and interval_refusals.rt in crates/typing_samples/src; the lines are the end of
+that crate's stdout:
 
     python3 tools/refusals.py | diff - <(tail -n 36 crates/typing_samples/stdout)
 """

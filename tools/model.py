@@ -1,4 +1,5 @@
-"""Document 01 in Python, written from its text alone: a second source for the expected output of the sample programs.
+"""Document 01 in Python, and the requests of document 02 that have landed (1), written from their text alone: a second
+source for the expected output of the sample programs.
 
 Slow and plain on purpose. Nothing here is taken from the Rattle code or from the Rust.
 """
@@ -45,6 +46,16 @@ def row_hash(row, factor):
     for octet in len(row).to_bytes(8, "little") + row:
         value = (value ^ octet) * 0x100000001B3 % MOD
     return value * factor % MOD >> 32
+
+
+def first_again(things):
+    """The lowest number of a thing that also stands before it, None where there is none."""
+    seen = set()
+    for i, thing in enumerate(things):
+        if thing in seen:
+            return i
+        seen.add(thing)
+    return None
 
 
 class Dictionary:
@@ -112,12 +123,13 @@ def build(file, factor, sizes=(4096, 4096, 4096, 4096, 16384)):
     n = len(rows)
     if min(sizes[:4]) < n or sizes[4] < 16384:
         return (7, 0), None
-    seen = set()
-    for c, row in enumerate(rows):
-        h = row_hash(row, factor)
-        if h in seen:
-            return (5, c), None
-        seen.add(h)
+    equal = first_again(rows)
+    if equal is not None:
+        return (5, equal), None
+    # no two rows are equal: rows with one hash have different bytes
+    clash = first_again(row_hash(row, factor) for row in rows)
+    if clash is not None:
+        return (13, clash), None
     d = Dictionary(rows)
     for w in range(n):
         parts = d.find_parts(w)
@@ -293,6 +305,12 @@ def check_samples():
     assert merge(f, b"aaa") == [256, 97]                            # P8
     assert not f.passes(97, 256) and f.passes(256, 97)              # P9, P10
     assert build(write_file(G), 1)[0] == (6, 0)
+    # document 02, ticket 1
+    again = write_file(B + [b"ab", b"ab"])
+    assert [build(again, factor)[0] for factor in (1, 2)] == [(5, 257)] * 2
+    clash = B + [b"cu", b"ru", b"lo", b"curu", b"curulo", b"da", b"ba", b"dacu", b"dacuba"]
+    assert [build(write_file(clash), factor)[0] for factor in (1, 2)] == [(13, 264), (0, 265)]
+    assert build(write_file(clash + [b"cu"]), 1)[0] == (5, 265)
 
 
 if __name__ == "__main__":

@@ -114,8 +114,12 @@ def cause_line(cause, place, words):
     return f"refused (cause {cause}, place {place}): {words}"
 
 
+def cause_fields(cause, place):
+    return f"refused cause={cause} place={place}"
+
+
 def cause_result(cause, place):
-    return f"result: refused cause={cause} place={place}\n"
+    return f"result: {cause_fields(cause, place)}\n"
 
 
 def rows_before(file):
@@ -153,11 +157,12 @@ def refusal(cause, place, file, factor):
         return f"the file has {many(place, 'row')} and may have 4096; take out {place - 4096}"
     if cause == 4:
         return f"byte {place} has no row of its own; add the row '{escaped(place)}' to the sheet"
-    if cause == 5 and rows.index(rows[place]) < place:
-        return f"{row(rows, place)} stands in row {rows.index(rows[place])} already; take one of the two out"
     if cause == 5:
+        return f"{row(rows, place)} stands in row {rows.index(rows[place])} already; take one of the two out"
+    if cause == 13:
         hashes = [model.row_hash(r, factor) for r in rows]
-        return f"{row(rows, place)} has the hash of {row(rows, hashes.index(hashes[place]))}; take another factor (phrases check FILE FACTOR)"
+        other = row(rows, hashes.index(hashes[place]))
+        return f"{row(rows, place)} has the hash of {other} under factor {factor}; both words may stay, take another factor"
     for byte in rows[place]:
         letter = bytes([byte])
         if rows.index(letter) > place:
@@ -166,23 +171,25 @@ def refusal(cause, place, file, factor):
 
 
 def find_factor(file):
-    return next((f for f in range(1, 65) if model.build(file, f)[0][0] != 5), 0)
+    return next((f for f in range(1, 65) if model.build(file, f)[0][0] != 13), 0)
 
 
-def build(file, factor):
+def build(name, file, factor):
     (cause, place), d = model.build(file, factor)
     if cause:
         say(cause_line(cause, place, refusal(cause, place, file, factor)) + "\n")
-        if cause == 5:
-            other = find_factor(file)
-            say("none of the factors 1 to 64 helps\n" if other == 0 else f"with factor {other} no two rows have the same hash\n")
-        stop(cause_result(cause, place))
+        if cause != 13:
+            stop(cause_result(cause, place))
+        other = find_factor(file)
+        say(f"under factor {other} no two rows clash: phrases check {quoted(name)} {other}\n" if other
+            else "none of the factors 1 to 64 helps: take one of the two words out, or try a larger factor\n")
+        stop(f"result: {cause_fields(cause, place)} factor={other or 'none'}\n")
     return d
 
 
 def load(name):
     file = read("FILE", name)
-    return build(file, find_factor(file) or 1)
+    return build(name, file, find_factor(file) or 1)
 
 
 # ---- commands
@@ -219,14 +226,14 @@ def sheet(name, out):
     (cause, place), _ = model.build(file, 1)
     if cause:
         say("warning: phrases check would refuse it:\n" + cause_line(cause, place, refusal(cause, place, file, 1)) + "\n")
-    answer = f"refused cause={cause} place={place}" if cause else "accepted"
+    answer = cause_fields(cause, place) if cause else "accepted"
     say(f"result: written rows={len(rows)} bytes={len(file)} check={answer}\n")
 
 
 def check(name, factor=b"1"):
     if not re.fullmatch(rb"[0-9]+", factor) or int(factor) >= 2 ** 64:
         argument("FACTOR", factor, "it is no number of 64 bits")
-    d = build(read("FILE", name), int(factor))
+    d = build(name, read("FILE", name), int(factor))
     n, most = len(d.rows), max(len(r) for r in d.rows)
     say(f"accepted: {many(n, 'row')}, the longest of {many(most, 'byte')}, {many(4096 - n, 'number')} free up to 4096\n")
     say(f"result: accepted rows={n} longest={most} free={4096 - n}\n")

@@ -7,6 +7,7 @@ import sys
 from model import (NONE, build, check_file, count_till_limit, decode, greedy, merge, record, shortest)
 
 NAMES = ["places", "lefts", "rights", "prefixes", "area", "output", "work", "bytes"]
+CLEARS = (5, 6, 13)  # the refusals of build after which the tables and the area are none
 FIRST = {name: 4200 for name in NAMES} | {"area": 16400, "bytes": 66000}
 
 
@@ -40,7 +41,7 @@ class Replay:
 
     def build(self, factor):
         (cause, place), d = build(self.file, factor, tuple(self.lent[name] for name in NAMES[:5]))
-        state = "filled" if not cause else "none" if cause in (5, 6) else "unchanged"
+        state = "filled" if not cause else "none" if cause in CLEARS else "unchanged"
         states = [state] * 5
         n = check_file(self.file)[0][1]
         if not cause:
@@ -49,7 +50,7 @@ class Replay:
                            "rights": dict(enumerate(p[1] for p in d.parts)), "prefixes": dict(enumerate(d.prefix(c) for c in range(n)))}
             states[3] = "none" if set(self.tables["prefixes"].values()) == {NONE} else "filled"
         else:
-            self.tables = {name: {i: NONE for i in range(n)} if cause in (5, 6) else {} for name in NAMES[:4]}
+            self.tables = {name: {i: NONE for i in range(n)} if cause in CLEARS else {} for name in NAMES[:4]}
         return " ".join([f"build {cause} {place}"] + states)
 
     def encoder(self, name):

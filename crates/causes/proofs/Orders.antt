@@ -7,15 +7,15 @@ use mathlib.Core.Bool.{Bool, true, false, not, _||_}
 use Prim.Native.Nat.{ℕ, zero, suc}
 use lib.Dec.{eqb}
 use Rattle.causes.specs.declared.Cause.{Cause}
-use Rattle.causes.specs.declared.Cause.the-variants.{FactorZero, BadRecord, RowCount, MissingByte, SameHash, NoParts, TooShort, OutOfForm, TooLong, UnknownCode, BadInterval, Full}
+use Rattle.causes.specs.declared.Cause.the-variants.{FactorZero, BadRecord, RowCount, MissingByte, EqualRow, NoParts, TooShort, OutOfForm, TooLong, UnknownCode, BadInterval, Full, SameHash}
 use Rattle.causes.specs.Causes.{refusalOf}
 use Rattle.causes.specs.Order.{buildOrder, decodeOrder, otherOrder, Condition, when, firstOf}
 use Rattle.causes.proofs.None.{among}
 
 -- the causes, in the order of their table
 abbrev causes : List Cause
-causes = FactorZero ∷ BadRecord 3 ∷ RowCount 255 ∷ MissingByte 7 ∷ SameHash 256 ∷ NoParts 257 ∷ TooShort ∷ OutOfForm
-    ∷ TooLong ∷ UnknownCode 1 ∷ BadInterval ∷ Full 40 ∷ []
+causes = FactorZero ∷ BadRecord 3 ∷ RowCount 255 ∷ MissingByte 7 ∷ EqualRow 256 ∷ NoParts 257 ∷ TooShort ∷ OutOfForm
+    ∷ TooLong ∷ UnknownCode 1 ∷ BadInterval ∷ Full 40 ∷ SameHash 264 ∷ []
 
 -- all of them apply but those of these numbers
 abbrev allBut : List ℕ → List Cause → List Condition
@@ -33,11 +33,11 @@ toldInTurn zero gone order = []
 toldInTurn (suc calls) gone order =
     let k = numberOf (firstOf order (allBut gone causes)) in elim (eqb k 0) [ true ↦ [] | false ↦ k ∷ toldInTurn calls (k ∷ gone) order ]
 
-pub in-build : toldInTurn 13 [] buildOrder ≡ 1 ∷ 2 ∷ 3 ∷ 4 ∷ 7 ∷ 5 ∷ 6 ∷ []
+pub in-build : toldInTurn 14 [] buildOrder ≡ 1 ∷ 2 ∷ 3 ∷ 4 ∷ 7 ∷ 5 ∷ 13 ∷ 6 ∷ []
 in-build = refl
 
-pub in-decoding : toldInTurn 13 [] decodeOrder ≡ 9 ∷ 8 ∷ 10 ∷ 7 ∷ []
+pub in-decoding : toldInTurn 14 [] decodeOrder ≡ 9 ∷ 8 ∷ 10 ∷ 7 ∷ []
 in-decoding = refl
 
-pub in-others : toldInTurn 13 [] otherOrder ≡ 9 ∷ 7 ∷ 8 ∷ 10 ∷ 11 ∷ 12 ∷ []
+pub in-others : toldInTurn 14 [] otherOrder ≡ 9 ∷ 7 ∷ 8 ∷ 10 ∷ 11 ∷ 12 ∷ []
 in-others = refl

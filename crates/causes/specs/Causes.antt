@@ -1,10 +1,11 @@
--- The causes of document 01: the number of each, the place that is returned with it, and the same for every answer.
+-- The causes of document 01, and 13 of document 02: the number of each, the place that is returned with it, and the
+-- same for every answer.
 use mathlib.Core.Bool.{cond}
 use Prim.Native.Nat.{ℕ}
 use Rattle.causes.specs.declared.Cause.{Cause}
-use Rattle.causes.specs.declared.Cause.the-variants.{FactorZero, BadRecord, RowCount, MissingByte, SameHash}
+use Rattle.causes.specs.declared.Cause.the-variants.{FactorZero, BadRecord, RowCount, MissingByte, EqualRow}
 use Rattle.causes.specs.declared.Cause.the-variants.{NoParts, TooShort, OutOfForm, TooLong, UnknownCode}
-use Rattle.causes.specs.declared.Cause.the-variants.{BadInterval, Full}
+use Rattle.causes.specs.declared.Cause.the-variants.{BadInterval, Full, SameHash}
 use Rattle.causes.specs.declared.BuildAnswer.{BuildAnswer}
 use Rattle.causes.specs.declared.BuildAnswer.the-variants as BuildAnswer
 use Rattle.causes.specs.declared.Answer.{Answer}
@@ -19,13 +20,13 @@ pub record Refusal : Type 0 where
   pub number : ℕ
   pub place : ℕ
 
--- the table of causes, in its order
+-- the table of causes, in its order, and the later numbers behind it
 abbrev pub refusalOf : Cause → Refusal
 refusalOf FactorZero = record { number = 1; place = 0 }
 refusalOf (BadRecord offset) = record { number = 2; place = offset }
 refusalOf (RowCount n) = record { number = 3; place = n }
 refusalOf (MissingByte byte) = record { number = 4; place = byte }
-refusalOf (SameHash row) = record { number = 5; place = row }
+refusalOf (EqualRow row) = record { number = 5; place = row }
 refusalOf (NoParts row) = record { number = 6; place = row }
 refusalOf TooShort = record { number = 7; place = 0 }
 refusalOf OutOfForm = record { number = 8; place = 0 }
@@ -33,6 +34,7 @@ refusalOf TooLong = record { number = 9; place = 0 }
 refusalOf (UnknownCode index) = record { number = 10; place = index }
 refusalOf BadInterval = record { number = 11; place = 0 }
 refusalOf (Full size) = record { number = 12; place = size }
+refusalOf (SameHash row) = record { number = 13; place = row }
 
 -- "When an answer is an enum, a definition gives this paper's number and values for each enum case."
 

@@ -1,5 +1,5 @@
--- In which order a call looks for a cause to refuse: document 01, "Causes". A call names its conditions in any order;
--- the first by the order of its kind that applies is its refusal.
+-- In which order a call looks for a cause to refuse: document 01, "Causes", with the later numbers of document 02. A
+-- call names its conditions in any order; the first by the order of its kind that applies is its refusal.
 use mathlib.Core.Option.{Option, none, some}
 use mathlib.Core.List.{List, [], _∷_}
 use mathlib.Core.Bool.{Bool, true, false, cond, _&&_}
@@ -10,9 +10,9 @@ use Rattle.causes.specs.declared.Cause.{Cause}
 use Rattle.causes.specs.declared.Cause.the-variants.{UnknownCode}
 use Rattle.causes.specs.Causes.{refusalOf}
 
--- "Order in build: 1, 2, 3, 4, 7, 5, 6."
+-- "Order in build: 1, 2, 3, 4, 7, 5, 6."; 13 "after 5 and before 6"
 abbrev pub buildOrder : List ℕ
-buildOrder = 1 ∷ 2 ∷ 3 ∷ 4 ∷ 7 ∷ 5 ∷ 6 ∷ []
+buildOrder = 1 ∷ 2 ∷ 3 ∷ 4 ∷ 7 ∷ 5 ∷ 13 ∷ 6 ∷ []
 
 -- "Decode and `token_bytes`: 9, 8, 10, 7"
 abbrev pub decodeOrder : List ℕ

@@ -12,8 +12,8 @@ pub enum Cause {
     RowCount(usize),
     // The lowest byte value without a row.
     MissingByte(u8),
-    // The lowest row with the hash of an earlier row.
-    SameHash(u32),
+    // The lowest row with the bytes of an earlier row.
+    EqualRow(u32),
     // The lowest longer row without parts.
     NoParts(u32),
     TooShort,
@@ -24,6 +24,8 @@ pub enum Cause {
     BadInterval,
     // The current length.
     Full(usize),
+    // The lowest row with the hash of an earlier row of other bytes.
+    SameHash(u32),
 }
 
 // The answer of build.
@@ -61,7 +63,7 @@ pub fn cause_number(cause: Cause) -> u32
         Cause::BadRecord(_) => 2,
         Cause::RowCount(_) => 3,
         Cause::MissingByte(_) => 4,
-        Cause::SameHash(_) => 5,
+        Cause::EqualRow(_) => 5,
         Cause::NoParts(_) => 6,
         Cause::TooShort => 7,
         Cause::OutOfForm => 8,
@@ -69,6 +71,7 @@ pub fn cause_number(cause: Cause) -> u32
         Cause::UnknownCode(_) => 10,
         Cause::BadInterval => 11,
         Cause::Full(_) => 12,
+        Cause::SameHash(_) => 13,
     }
 }
 
@@ -81,7 +84,7 @@ pub fn cause_place(cause: Cause) -> u64
         Cause::BadRecord(offset) => offset as u64,
         Cause::RowCount(n) => n as u64,
         Cause::MissingByte(byte) => byte as u64,
-        Cause::SameHash(row) => row as u64,
+        Cause::EqualRow(row) => row as u64,
         Cause::NoParts(row) => row as u64,
         Cause::TooShort => 0,
         Cause::OutOfForm => 0,
@@ -89,6 +92,7 @@ pub fn cause_place(cause: Cause) -> u64
         Cause::UnknownCode(index) => index as u64,
         Cause::BadInterval => 0,
         Cause::Full(length) => length as u64,
+        Cause::SameHash(row) => row as u64,
     }
 }
 

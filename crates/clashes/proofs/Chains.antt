@@ -15,35 +15,35 @@ use Rattle.theory.specs.Dictionary.{none}
 use Rattle.clashes.specs.Buckets.{emptied, head, link, stored, listed, pushed}
 
 -- the list from x, where x is no row below k and where it is one
-pub listed-out : (area : List ℕ) (h k x : ℕ) → k ≤ x → listed area h k x ≡ false
+pub listed-out : (area : List ℕ) (test : ℕ → Bool) (k x : ℕ) → k ≤ x → listed area test k x ≡ false
 unfolding listed
-listed-out area h zero x l = refl
-listed-out area h (suc k) x l = rw (ne-eqb x k (λ e. omega arith), listed) (listed-out area h k x (omega arith))
+listed-out area test zero x l = refl
+listed-out area test (suc k) x l = rw (ne-eqb x k (λ e. omega arith), listed) (listed-out area test k x (omega arith))
 
-listed-in : (area : List ℕ) (h k x : ℕ) → x < k → listed area h k x ≡ eqb (stored area x) h || listed area h x (link area x)
+listed-in : (area : List ℕ) (test : ℕ → Bool) (k x : ℕ) → x < k → listed area test k x ≡ test x || listed area test x (link area x)
 unfolding listed
-listed-in area h zero x l = absurd (omega arith)
-listed-in area h (suc k) x l = go (decLt x k) (listed-in area h k x)
+listed-in area test zero x l = absurd (omega arith)
+listed-in area test (suc k) x l = go (decLt x k) (listed-in area test k x)
   where
-    go : Dec (x < k) → (x < k → listed area h k x ≡ eqb (stored area x) h || listed area h x (link area x)) → listed area h (suc k) x ≡ eqb (stored area x) h || listed area h x (link area x)
+    go : Dec (x < k) → (x < k → listed area test k x ≡ test x || listed area test x (link area x)) → listed area test (suc k) x ≡ test x || listed area test x (link area x)
     go (yes m) ih = rw (ne-eqb x k (λ e. omega arith), listed) (ih m)
     go (no m) ih = let z : x ≡ k = omega arith in rw (z, eq-eqb k k refl, listed)
 
 -- the same, by the test of row x
-pub listed-here : (area : List ℕ) (h k x : ℕ) → x < k → stored area x ≡ h → listed area h k x ≡ true
-listed-here area h k x l e = listed-in area h k x l ∙ rw (eq-eqb (stored area x) h e)
+pub listed-here : (area : List ℕ) (test : ℕ → Bool) (k x : ℕ) → x < k → test x ≡ true → listed area test k x ≡ true
+listed-here area test k x l e = listed-in area test k x l ∙ rw e
 
-pub listed-on : (area : List ℕ) (h k x : ℕ) → x < k → (stored area x ≡ h → ⊥) → listed area h k x ≡ listed area h x (link area x)
-listed-on area h k x l e = listed-in area h k x l ∙ rw (ne-eqb (stored area x) h e)
+pub listed-on : (area : List ℕ) (test : ℕ → Bool) (k x : ℕ) → x < k → test x ≡ false → listed area test k x ≡ listed area test x (link area x)
+listed-on area test k x l e = listed-in area test k x l ∙ rw e
 
--- two scratches with the same links and hashes of the rows below k have the same lists of them
-pub listed-same : (area area' : List ℕ) (h k x : ℕ) → ((c : ℕ) → c < k → link area' c ≡ link area c) → ((c : ℕ) → c < k → stored area' c ≡ stored area c) → listed area' h k x ≡ listed area h k x
+-- two scratches with the same links of the rows below k, and tests that agree on these rows, have the same lists
+pub listed-same : (area area' : List ℕ) (test test' : ℕ → Bool) (k x : ℕ) → ((c : ℕ) → c < k → link area' c ≡ link area c) → ((c : ℕ) → c < k → test' c ≡ test c) → listed area' test' k x ≡ listed area test k x
 unfolding listed
-listed-same area area' h zero x f g = refl
-listed-same area area' h (suc k) x f g = go (eqb x k) refl (λ y. listed-same area area' h k y (λ c l. f c (omega arith)) (λ c l. g c (omega arith)))
+listed-same area area' test test' zero x f g = refl
+listed-same area area' test test' (suc k) x f g = go (eqb x k) refl (λ y. listed-same area area' test test' k y (λ c l. f c (omega arith)) (λ c l. g c (omega arith)))
   where
-    go : (b : Bool) → eqb x k ≡ b → ((y : ℕ) → listed area' h k y ≡ listed area h k y) → listed area' h (suc k) x ≡ listed area h (suc k) x
-    go true e ih = rw (e, listed, f k (omega arith), g k (omega arith)) (ap (λ (b : Bool). eqb (stored area k) h || b) (ih (link area k)))
+    go : (b : Bool) → eqb x k ≡ b → ((y : ℕ) → listed area' test' k y ≡ listed area test k y) → listed area' test' (suc k) x ≡ listed area test (suc k) x
+    go true e ih = rw (e, listed, f k (omega arith), g k (omega arith)) (ap (λ (b : Bool). test k || b) (ih (link area k)))
     go false e ih = rw (e, listed) (ih x)
 
 module _ (area : List ℕ) (c h : ℕ) (C : c < 4096) (A : 16384 ≤ length area) where
@@ -90,35 +90,36 @@ module _ (area : List ℕ) (c h : ℕ) (C : c < 4096) (A : 16384 ≤ length area
       ∙ getD-set-other one (4096 + c) (4096 + x) (head area h) 0 (λ z. omega arith)
       ∙ getD-set-other area (8192 + c) (4096 + x) h 0 (λ z. omega arith)
 
-  stored-new : stored (pushed area c h) c ≡ h
+  pub stored-new : stored (pushed area c h) c ≡ h
   unfolding pushed
   stored-new =
       getD-set-other two (h % 4096) (8192 + c) c 0 (λ z. omega arith)
       ∙ getD-set-other one (4096 + c) (8192 + c) (head area h) 0 (λ z. omega arith)
       ∙ getD-set-same area (8192 + c) h 0 (omega arith)
 
-  stored-old : (x : ℕ) → x < c → stored (pushed area c h) x ≡ stored area x
+  pub stored-old : (x : ℕ) → x < c → stored (pushed area c h) x ≡ stored area x
   unfolding pushed
   stored-old x l =
       getD-set-other two (h % 4096) (8192 + x) c 0 (λ z. omega arith)
       ∙ getD-set-other one (4096 + c) (8192 + x) (head area h) 0 (λ z. omega arith)
       ∙ getD-set-other area (8192 + c) (8192 + x) h 0 (λ z. omega arith)
 
-  keep : (g x : ℕ) → listed (pushed area c h) g c x ≡ listed area g c x
-  keep g x = listed-same area (pushed area c h) g c x link-old stored-old
-
   -- the row's own bucket gains the row, the others stay
-  pub push-own : (g : ℕ) → g % 4096 ≡ h % 4096 → listed (pushed area c h) g (suc c) (head (pushed area c h) g) ≡ eqb h g || listed area g c (head area g)
-  push-own g e =
-      let z : head (pushed area c h) g ≡ c = ap (λ (b : ℕ). getD (pushed area c h) b 0) e ∙ head-new in
-      let y : link (pushed area c h) c ≡ head area g = link-new ∙ ap (λ (b : ℕ). getD area b 0) (sym e) in
-      rw (z, listed-in (pushed area c h) g (suc c) c (omega arith), stored-new, y) (ap (λ (b : Bool). eqb h g || b) (keep g (head area g)))
+  module _ (test : ℕ → Bool) where
+    keep : (x : ℕ) → listed (pushed area c h) test c x ≡ listed area test c x
+    keep x = listed-same area (pushed area c h) test test c x link-old (λ y l. refl)
 
-  pub push-other : (g : ℕ) → (g % 4096 ≡ h % 4096 → ⊥) → (head area g ≡ c → ⊥) → listed (pushed area c h) g (suc c) (head (pushed area c h) g) ≡ listed area g c (head area g)
-  unfolding listed
-  push-other g e f =
-      let z : head (pushed area c h) g ≡ head area g = head-old (g % 4096) (omega arith) e in
-      ap (listed (pushed area c h) g (suc c)) z ∙ (rw (ne-eqb (head area g) c f, listed) (keep g (head area g)))
+    pub push-own : (g : ℕ) → g % 4096 ≡ h % 4096 → listed (pushed area c h) test (suc c) (head (pushed area c h) g) ≡ test c || listed area test c (head area g)
+    push-own g e =
+        let z : head (pushed area c h) g ≡ c = ap (λ (b : ℕ). getD (pushed area c h) b 0) e ∙ head-new in
+        let y : link (pushed area c h) c ≡ head area g = link-new ∙ ap (λ (b : ℕ). getD area b 0) (sym e) in
+        rw (z, listed-in (pushed area c h) test (suc c) c (omega arith), y) (ap (λ (b : Bool). test c || b) (keep (head area g)))
+
+    pub push-other : (g : ℕ) → (g % 4096 ≡ h % 4096 → ⊥) → (head area g ≡ c → ⊥) → listed (pushed area c h) test (suc c) (head (pushed area c h) g) ≡ listed area test c (head area g)
+    unfolding listed
+    push-other g e f =
+        let z : head (pushed area c h) g ≡ head area g = head-old (g % 4096) (omega arith) e in
+        ap (listed (pushed area c h) test (suc c)) z ∙ (rw (ne-eqb (head area g) c f, listed) (keep (head area g)))
 
 replicate-more : (i a : ℕ) → replicate i a ++ a ∷ [] ≡ replicate (suc i) a
 replicate-more zero a = refl

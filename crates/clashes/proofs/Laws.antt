@@ -1,80 +1,112 @@
--- Laws of the first clash: what it says of the rows' hashes. Assumes nothing.
+-- Laws of the lowest row that passes a test with an earlier row, and of the three tests: equal bytes, one hash, and both
+-- one hash and other bytes. Assumes nothing.
 use mathlib.Core.Path.{_≡_, refl, sym, ap, _∙_}
 use mathlib.Core.List.{List}
-use mathlib.Core.Bool.{Bool, true, false, _||_}
+use mathlib.Core.Bool.{Bool, true, false, not, _&&_, _||_}
 use Prim.Native.Nat.{ℕ, zero, suc, _≤_, _<_}
 use native.Mathlib.Decide.{decLt}
 use native.Mathlib.Omega.{arith}
 use lib.Dec.{eqb}
-use borrow.Author.Tests.{eq-eqb, eqb-true}
+use borrow.Author.Tests.{eq-eqb}
+use Rattle.theory.specs.Lists.{equal}
+use Rattle.theory.proofs.Lists.{true-false, bool-cases, equal-eq}
 use Rattle.fnv.specs.Fnv.{rowHash}
-use Rattle.placed_rows.specs.Rows.{row}
-use Rattle.clashes.specs.Clashes.{seen, clashes, firstClash, hashes}
-use Rattle.clashes.proofs.Lowest.{lowest-at, lowest-none, lowest-within, below-lowest, lowest-passes}
+use Rattle.clashes.specs.Clashes.{seen, lowest, firstWith, isEqual, sharesHash, clashes}
+use Rattle.clashes.proofs.Lowest.{lowest-at, lowest-none, lowest-same, below-lowest}
+
+pub and-true : (a : Bool) → a && true ≡ a
+and-true true = refl
+and-true false = refl
+
+pub and-false : (a : Bool) → a && false ≡ false
+and-false true = refl
+and-false false = refl
 
 or-right : (a b : Bool) → b ≡ true → a || b ≡ true
 or-right true b e = refl
 or-right false b e = e
 
-module _ (hash : ℕ → ℕ) where
-  -- an earlier row with that hash is seen
-  pub seen-row : (h i j : ℕ) → j < i → hash j ≡ h → seen hash h i ≡ true
-  unfolding seen
-  seen-row h zero j l e = absurd (omega arith)
-  seen-row h (suc i) j l e = go (decLt j i) (λ k. seen-row h i j k e)
-    where
-      go : Dec (j < i) → (j < i → seen hash h i ≡ true) → seen hash h (suc i) ≡ true
-      go (yes k) ih = or-right (eqb (hash i) h) (seen hash h i) (ih k)
-      go (no k) ih = let z : i ≡ j = omega arith in rw (eq-eqb (hash i) h (ap hash z ∙ e))
+-- a number that passes is seen
+seen-row : (test : ℕ → Bool) (i j : ℕ) → j < i → test j ≡ true → seen test i ≡ true
+unfolding seen
+seen-row test zero j l e = absurd (omega arith)
+seen-row test (suc i) j l e = go (decLt j i) (λ k. seen-row test i j k e)
+  where
+    go : Dec (j < i) → (j < i → seen test i ≡ true) → seen test (suc i) ≡ true
+    go (yes k) ih = or-right (test i) (seen test i) (ih k)
+    go (no k) ih = let z : i ≡ j = omega arith in rw (ap test z ∙ e)
 
-  -- and what is seen is an earlier row with that hash
-  pub seen-some : (h i : ℕ) → seen hash h i ≡ true → (j : ℕ) × (j < i) × (hash j ≡ h)
-  unfolding seen
-  seen-some h zero e = absurd (let y : _≡_ {A = ℕ} 0 1 = cc in omega arith)
-  seen-some h (suc i) e = go (eqb (hash i) h) refl (seen-some h i)
-    where
-      go : (b : Bool) → eqb (hash i) h ≡ b → (seen hash h i ≡ true → (j : ℕ) × (j < i) × (hash j ≡ h)) → (j : ℕ) × (j < suc i) × (hash j ≡ h)
-      go true q ih = (i, omega arith, eqb-true (hash i) h q)
-      go false q ih = let z = ih (rw q at e) in (z .0, (let l = z .1 in omega arith), z .2)
+-- where none passes, none is seen
+seen-none : (test : ℕ → Bool) (i : ℕ) → ((j : ℕ) → j < i → test j ≡ false) → seen test i ≡ false
+unfolding seen
+seen-none test zero f = refl
+seen-none test (suc i) f = rw (f i (omega arith)) (seen-none test i (λ j l. f j (omega arith)))
 
-  -- a row that does not clash has another hash than each earlier row
-  apart : (i j : ℕ) → clashes hash i ≡ false → hash i ≡ hash j → j < i → ⊥
-  unfolding clashes
-  apart i j f e l = let z : true ≡ false = sym (seen-row (hash i) i j l (sym e)) ∙ f in let y : _≡_ {A = ℕ} 0 1 = cc in omega arith
+-- tests that agree see the same
+pub seen-same : (test test' : ℕ → Bool) (i : ℕ) → ((j : ℕ) → j < i → test j ≡ test' j) → seen test i ≡ seen test' i
+unfolding seen
+seen-same test test' zero f = refl
+seen-same test test' (suc i) f =
+    rw (f i (omega arith)) (ap (λ (b : Bool). test' i || b) (seen-same test test' i (λ j l. f j (omega arith))))
 
-  module _ (n : ℕ) where
-    -- there is no clash from n on
-    pub clash-within : firstClash hash n ≤ n
-    unfolding firstClash
-    clash-within = lowest-within (clashes hash) n
+-- no row below n passes the test with an earlier row
+abbrev pub NonePass : (ℕ → ℕ → Bool) → ℕ → Type 0
+NonePass test n = (i j : ℕ) → i < n → j < i → test i j ≡ false
 
-    -- where no row clashes, rows with one hash are one row
-    pub clash-none : firstClash hash n ≡ n → (i j : ℕ) → i < n → j < n → hash i ≡ hash j → i ≡ j
-    unfolding firstClash
-    clash-none e i j a b q = go (decLt i j) (decLt j i)
+module _ (test : ℕ → ℕ → Bool) (n : ℕ) where
+  pub none-pass : n ≤ firstWith test n → NonePass test n
+  unfolding firstWith
+  none-pass e i j l m = bool-cases (test i j)
+      (λ t. absurd (true-false (sym (seen-row (test i) i j m t) ∙ below-lowest (λ k. seen (test k) k) n i (omega arith))))
+      (λ f. f)
+
+  pub first-none : ((i : ℕ) → i < n → seen (test i) i ≡ false) → firstWith test n ≡ n
+  unfolding firstWith
+  first-none f = lowest-none (λ k. seen (test k) k) n f
+
+  pass-none : NonePass test n → firstWith test n ≡ n
+  pass-none f = first-none (λ i l. seen-none (test i) i (λ j m. f i j l m))
+
+  -- the lowest row, by the rows below it
+  pub first-at : (i : ℕ) → i < n → seen (test i) i ≡ true → ((j : ℕ) → j < i → seen (test j) j ≡ false) → firstWith test n ≡ i
+  unfolding firstWith
+  first-at i l e f = lowest-at (λ k. seen (test k) k) n i l e f
+
+  -- tests that agree have the same lowest row
+  first-same : (test' : ℕ → ℕ → Bool) → ((i j : ℕ) → i < n → j < i → test i j ≡ test' i j) → firstWith test n ≡ firstWith test' n
+  unfolding firstWith
+  first-same test' f =
+      lowest-same (λ k. seen (test k) k) (λ k. seen (test' k) k) n (λ i l. seen-same (test i) (test' i) i (λ j m. f i j l m))
+
+module _ (bytes : ℕ → List ℕ) (factor n : ℕ) where
+  -- rows of equal bytes have one hash
+  pub equal-shares : (i j : ℕ) → bytes j ≡ bytes i → sharesHash bytes factor i j ≡ true
+  equal-shares i j e = eq-eqb _ _ (ap (λ (t : List ℕ). rowHash t factor) e)
+
+  -- no two rows have one hash
+  module _ (none : n ≤ firstWith (sharesHash bytes factor) n) where
+    -- so rows of equal bytes are one row
+    pub apart : (i j : ℕ) → i < n → j < n → bytes i ≡ bytes j → i ≡ j
+    apart i j a b e = go (decLt i j) (decLt j i)
       where
-        free : (k : ℕ) → k < n → clashes hash k ≡ false
-        free k l = below-lowest (clashes hash) n k (omega arith)
+        never : (i j : ℕ) → i < n → j < i → bytes j ≡ bytes i → ⊥
+        never i j l m q = true-false (sym (equal-shares i j q) ∙ none-pass (sharesHash bytes factor) n none i j l m)
 
         go : Dec (i < j) → Dec (j < i) → i ≡ j
-        go (yes l) d = absurd (apart j i (free j b) (sym q) l)
-        go (no l) (yes k) = absurd (apart i j (free i a) q k)
+        go (yes l) d = absurd (never j i b l e)
+        go (no l) (yes k) = absurd (never i j a k (sym e))
         go (no l) (no k) = omega arith
 
-    -- the first clash clashes, and no lower row does
-    pub clash-is : firstClash hash n < n → (clashes hash (firstClash hash n) ≡ true) × ((j : ℕ) → j < firstClash hash n → clashes hash j ≡ false)
-    unfolding firstClash
-    clash-is l = (lowest-passes (clashes hash) n l, below-lowest (clashes hash) n)
+    pub none-equal : firstWith (isEqual bytes) n ≡ n
+    none-equal = pass-none (isEqual bytes) n (λ i j l m. bool-cases (isEqual bytes i j)
+        (λ t. let e : i ≡ j = apart i j l (omega arith) (sym (equal-eq (bytes j) (bytes i) t)) in absurd (omega arith))
+        (λ f. f))
 
-    -- the first clash, by the rows below it that do not clash
-    pub first-at : (i : ℕ) → i < n → clashes hash i ≡ true → ((j : ℕ) → j < i → clashes hash j ≡ false) → i ≡ firstClash hash n
-    unfolding firstClash
-    first-at i l e f = sym (lowest-at (clashes hash) n i l e f)
+    pub none-clashes : firstWith (clashes bytes factor) n ≡ n
+    none-clashes = pass-none (clashes bytes factor) n
+        (λ i j l m. rw (none-pass (sharesHash bytes factor) n none i j l m) (and-false (not (isEqual bytes i j))))
 
-    pub first-none : ((j : ℕ) → j < n → clashes hash j ≡ false) → n ≡ firstClash hash n
-    unfolding firstClash
-    first-none f = sym (lowest-none (clashes hash) n f)
-
--- so no two rows have the same bytes
-pub clash-none-rows : (file places : List ℕ) (n factor : ℕ) → firstClash (hashes file places n factor) n ≡ n → (i j : ℕ) → i < n → j < n → row file places n i ≡ row file places n j → i ≡ j
-clash-none-rows file places n factor e i j a b q = clash-none (hashes file places n factor) n e i j a b (ap (λ (t : List ℕ). rowHash t factor) q)
+  -- where no two rows are equal, the lowest row with the hash of an earlier one is the lowest that clashes
+  pub shared-clashes : n ≤ firstWith (isEqual bytes) n → firstWith (sharesHash bytes factor) n ≡ firstWith (clashes bytes factor) n
+  shared-clashes none = first-same (sharesHash bytes factor) n (clashes bytes factor)
+      (λ i j l m. rw (none-pass (isEqual bytes) n none i j l m))

@@ -1,4 +1,6 @@
+pub mod Bytes
 pub mod Lowest
 pub mod Laws
 pub mod Chains
 pub mod Indexed
+pub mod Samples

@@ -17,14 +17,16 @@ unfolding lowest
 lowest-none test zero f = refl
 lowest-none test (suc n) f = rw (f 0 (omega arith), lowest) (ap suc (lowest-none (λ k. test (suc k)) n (λ j h. f (suc j) (omega arith))))
 
-pub lowest-within : (test : ℕ → Bool) (n : ℕ) → lowest test n ≤ n
+-- tests that agree have the same lowest number
+pub lowest-same : (test test' : ℕ → Bool) (n : ℕ) → ((j : ℕ) → j < n → test j ≡ test' j) → lowest test n ≡ lowest test' n
 unfolding lowest
-lowest-within test zero = omega arith
-lowest-within test (suc n) = go (test 0) refl (lowest-within (λ k. test (suc k)) n)
+lowest-same test test' zero f = refl
+lowest-same test test' (suc n) f =
+    go (test' 0) refl (lowest-same (λ k. test (suc k)) (λ k. test' (suc k)) n (λ j h. f (suc j) (omega arith)))
   where
-    go : (b : Bool) → test 0 ≡ b → lowest (λ k. test (suc k)) n ≤ n → lowest test (suc n) ≤ suc n
-    go true e ih = rw (e, lowest) (omega arith)
-    go false e ih = rw (e, lowest) (omega arith)
+    go : (b : Bool) → test' 0 ≡ b → lowest (λ k. test (suc k)) n ≡ lowest (λ k. test' (suc k)) n → lowest test (suc n) ≡ lowest test' (suc n)
+    go true e ih = rw (f 0 (omega arith), e, lowest)
+    go false e ih = rw (f 0 (omega arith), e, lowest) (ap suc ih)
 
 -- no number below the lowest passes
 pub below-lowest : (test : ℕ → Bool) (n j : ℕ) → j < lowest test n → test j ≡ false
@@ -36,13 +38,3 @@ below-lowest test (suc n) j h = go (test 0) refl j h (below-lowest (λ k. test (
     go true e j h ih = let z : j < 0 = rw (e, lowest) at h in absurd (omega arith)
     go false e zero h ih = e
     go false e (suc j) h ih = let z : suc j < suc (lowest (λ k. test (suc k)) n) = rw (e, lowest) at h in ih j (omega arith)
-
--- the lowest passes
-pub lowest-passes : (test : ℕ → Bool) (n : ℕ) → lowest test n < n → test (lowest test n) ≡ true
-unfolding lowest
-lowest-passes test zero h = absurd (omega arith)
-lowest-passes test (suc n) h = go (test 0) refl (lowest-passes (λ k. test (suc k)) n)
-  where
-    go : (b : Bool) → test 0 ≡ b → (lowest (λ k. test (suc k)) n < n → test (suc (lowest (λ k. test (suc k)) n)) ≡ true) → test (lowest test (suc n)) ≡ true
-    go true e ih = rw (e, lowest) e
-    go false e ih = let z : suc (lowest (λ k. test (suc k)) n) < suc n = rw (e, lowest) at h in rw (e, lowest) (ih (omega arith))

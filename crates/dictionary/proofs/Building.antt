@@ -1,7 +1,7 @@
 -- The answers of build, each with the tables after it. Assumes nothing.
 use mathlib.Core.Path.{_≡_, refl, sym, ap, _∙_}
 use mathlib.Core.Option.{Option, none, some}
-use mathlib.Core.List.{List, [], _∷_}
+use mathlib.Core.List.{List}
 use mathlib.Core.Bool.{Bool, true, false, cond, _||_}
 use Prim.Native.Nat.{ℕ, _≤_, _<_}
 use native.Mathlib.Omega.{arith}
@@ -9,11 +9,10 @@ use lib.ListN.{length}
 use lib.Dec.{ltb, eqb}
 use borrow.Author.Tests.{lt-ltb, le-ltb, eq-eqb, ne-eqb}
 use Rattle.causes.specs.declared.Cause.{Cause}
-use Rattle.causes.specs.declared.Cause.the-variants.{FactorZero, BadRecord, RowCount, MissingByte, SameHash, NoParts, TooShort}
+use Rattle.causes.specs.declared.Cause.the-variants.{FactorZero, BadRecord, RowCount, MissingByte, EqualRow, SameHash, NoParts, TooShort}
 use Rattle.causes.specs.declared.BuildAnswer.{BuildAnswer}
 use Rattle.causes.specs.declared.BuildAnswer.the-variants.{Rows, Refused}
-use Rattle.causes.specs.Causes.{refusalOf}
-use Rattle.causes.specs.Order.{buildOrder, when, firstOf}
+use Rattle.causes.specs.Order.{buildOrder, firstOf}
 use Rattle.causes.specs.Call.{toRows}
 use Rattle.causes.proofs.Calls.{rows-apart, call-refused, call-given, value-said, cause-said}
 use Rattle.causes.proofs.None.{AllFail, none-applies}
@@ -22,13 +21,11 @@ use Rattle.phrase_file.specs.Checks.{missingByte, fileConditions, checkOf}
 use Rattle.phrase_file.proofs.Checks.{accepted}
 use Rattle.parts.specs.Parts.{firstWithout}
 use Rattle.tables.specs.Tables.{Tables}
-use Rattle.dictionary.specs.Build.{tooShort, sameHash, buildRefusal, allCleared, afterRefusal, BuildIs}
-use Rattle.dictionary.specs.Steps.{rowsAnswer, Buildable, TablesFilled}
+use Rattle.clashes.specs.Clashes.{firstWith, isEqual, sharesHash}
+use Rattle.clashes.proofs.Laws.{none-equal, none-clashes, shared-clashes}
+use Rattle.dictionary.specs.Build.{tooShort, bytesAt, equalRow, sameHash, rowConditions, buildRefusal, allCleared, clears, afterRefusal, BuildIs}
+use Rattle.dictionary.specs.Steps.{rowsAnswer, sharedHash, Buildable, TablesFilled}
 use Rattle.dictionary.proofs.Clearing.{cleared-beyond}
-
--- the causes 5 and 6 clear the tables
-abbrev clears : Cause → Bool
-clears cause = eqb (refusalOf cause .number) 5 || eqb (refusalOf cause .number) 6
 
 pub refused-rows : (c : Cause) (n : ℕ) → Refused c ≡ Rows n → ⊥
 refused-rows c n e = rows-apart .kinds n c (sym e)
@@ -63,8 +60,7 @@ module _ (factor : ℕ) (T : Tables) where
         let n = length (rows file) in
         let told = file-first (recordsEnd file) n (missingByte file) (ltb 65536 (length file))
         (ltb (recordsEnd file) (length file)) (ltb n 256 || ltb 4096 n) (ltb (missingByte file) 256)
-        (cond (tooShort T n) (some TooShort) (cond (ltb (sameHash file factor) n) (some (SameHash (sameHash file factor)))
-        (cond (ltb (firstWithout (rows file)) n) (some (NoParts (firstWithout (rows file)))) none))) cause first in
+        (cond (tooShort T n) (some TooShort) (firstOf buildOrder (rowConditions factor file n))) cause first in
         call-refused toRows (rw (ne-eqb factor 0 f) (told .0)) 0 (rw (told .1))
 
     module _ (n : ℕ) (passed : Rows n ≡ checkOf file) where
@@ -76,12 +72,9 @@ module _ (factor : ℕ) (T : Tables) where
       fails = none-applies buildOrder (fileConditions file)
           (value-said rows-apart (firstOf buildOrder (fileConditions file)) (length (rows file)) n (sym passed) .0)
 
-      -- what is left to refuse: 7, 5 and 6
+      -- what is left to refuse after 7: 5, 13 and 6
       abbrev left : Option Cause
-      left = firstOf buildOrder
-          (when (ltb (sameHash file factor) n) (SameHash (sameHash file factor))
-          ∷ when (ltb (firstWithout (rows file)) n) (NoParts (firstWithout (rows file)))
-          ∷ [])
+      left = firstOf buildOrder (rowConditions factor file n)
 
       from-rows : buildRefusal factor T ≡ cond (tooShort T n) (some TooShort) left
       unfolding buildRefusal
@@ -101,30 +94,58 @@ module _ (factor : ℕ) (T : Tables) where
       pub buildable : tooShort T n ≡ false → Buildable factor T n
       buildable t = record { some-factor = f; passed = sym passed; room = t }
 
--- the refusals 5 and 6 clear the tables
-rows-clear : (a b : Bool) (row other : ℕ) (cause : Cause) → cond a (some (SameHash row)) (cond b (some (NoParts other)) none) ≡ some cause
+-- the refusals 5, 13 and 6 clear the tables
+rows-clear : (a b c : Bool) (i j k : ℕ) (cause : Cause)
+    → cond a (some (EqualRow i)) (cond b (some (SameHash j)) (cond c (some (NoParts k)) none)) ≡ some cause
     → clears cause ≡ true
-rows-clear true b row other cause e = let q : SameHash row ≡ cause = cc in ap clears (sym q)
-rows-clear false true row other cause e = let q : NoParts other ≡ cause = cc in ap clears (sym q)
-rows-clear false false row other cause e = absurd (let z : _≡_ {A = ℕ} 0 1 = cc in omega arith)
+rows-clear true b c i j k cause e = let q : EqualRow i ≡ cause = cc in ap clears (sym q)
+rows-clear false true c i j k cause e = let q : SameHash j ≡ cause = cc in ap clears (sym q)
+rows-clear false false true i j k cause e = let q : NoParts k ≡ cause = cc in ap clears (sym q)
+rows-clear false false false i j k cause e = absurd (let z : _≡_ {A = ℕ} 0 1 = cc in omega arith)
 
 module _ (factor : ℕ) (T : Tables) (n : ℕ) (A : Buildable factor T n) where
   open Tables T using (file)
 
-  -- the answers of the two searches
-  module _ (clash : ℕ) (s : clash ≡ sameHash file factor) where
-    pub answer-hash : clash < n → Refused (SameHash clash) ≡ rowsAnswer factor T n
+  count : n ≡ length (rows file)
+  count = accepted file n (A .passed) .count
+
+  -- the answers of the searches: the lowest row with the bytes of an earlier one and, where there is none, the lowest
+  -- with the hash of one
+  pub answer-equal : equalRow file < n → Refused (EqualRow (equalRow file)) ≡ rowsAnswer factor T n
+  unfolding rowsAnswer
+  answer-equal h = rw (lt-ltb (equalRow file) n h)
+
+  module _ (shared : ℕ) (s : shared ≡ sharedHash file factor) where
+    shared-is : n ≤ equalRow file → shared ≡ sameHash file factor
+    unfolding equalRow sameHash sharedHash
+    shared-is d = s ∙ shared-clashes (bytesAt file) factor (length (rows file)) (let k = count in omega arith)
+
+    pub answer-hash : n ≤ equalRow file → shared < n → Refused (SameHash shared) ≡ rowsAnswer factor T n
     unfolding rowsAnswer
-    answer-hash h = rw (← s, lt-ltb clash n h)
+    answer-hash d h = rw (le-ltb (equalRow file) n d, ← shared-is d, lt-ltb shared n h)
 
-    module _ (d : n ≤ clash) (without : ℕ) (t : without ≡ firstWithout (rows file)) where
-      pub answer-parts : without < n → Refused (NoParts without) ≡ rowsAnswer factor T n
-      unfolding rowsAnswer
-      answer-parts h = rw (← s, le-ltb clash n d, ← t, lt-ltb without n h)
+    -- no two rows have one hash: neither 5 nor 13
+    module _ (d : n ≤ shared) where
+      none-shared : length (rows file) ≤ firstWith (sharesHash (bytesAt file) factor) (length (rows file))
+      unfolding sharedHash
+      none-shared = let k = count in omega arith
 
-      pub answer-rows : n ≤ without → Rows n ≡ rowsAnswer factor T n
-      unfolding rowsAnswer
-      answer-rows h = rw (← s, le-ltb clash n d, ← t, le-ltb without n h)
+      no-equal : n ≤ equalRow file
+      unfolding equalRow
+      no-equal = omega (arith, count, none-equal (bytesAt file) factor (length (rows file)) none-shared)
+
+      no-clash : n ≤ sameHash file factor
+      unfolding sameHash
+      no-clash = omega (arith, count, none-clashes (bytesAt file) factor (length (rows file)) none-shared)
+
+      module _ (without : ℕ) (t : without ≡ firstWithout (rows file)) where
+        pub answer-parts : without < n → Refused (NoParts without) ≡ rowsAnswer factor T n
+        unfolding rowsAnswer
+        answer-parts h = rw (le-ltb _ _ no-equal, le-ltb _ _ no-clash, ← t, lt-ltb without n h)
+
+        pub answer-rows : n ≤ without → Rows n ≡ rowsAnswer factor T n
+        unfolding rowsAnswer
+        answer-rows h = rw (le-ltb _ _ no-equal, le-ltb _ _ no-clash, ← t, le-ltb without n h)
 
   abbrev rest : Option Cause
   rest = left factor T (A .some-factor) n (sym (A .passed))
@@ -149,7 +170,7 @@ module _ (factor : ℕ) (T : Tables) (n : ℕ) (A : Buildable factor T n) where
     unfolding afterRefusal rowsAnswer
     cleared-rows cause T' e f =
         let told = cause-said rows-apart rest n cause (sym (F .answer) ∙ e) in
-        let c = rows-clear (ltb (sameHash file factor) n) (ltb (firstWithout (rows file)) n) (sameHash file factor)
-        (firstWithout (rows file)) cause told in
+        let c = rows-clear (ltb (equalRow file) n) (ltb (sameHash file factor) n) (ltb (firstWithout (rows file)) n)
+        (equalRow file) (sameHash file factor) (firstWithout (rows file)) cause told in
         call-refused toRows (refusal-is ∙ told) 0
         (rw (c, ← accepted file n (A .passed) .count) (f ∙ cleared-beyond n T T₁ (F .beyond-kept)))

@@ -22,8 +22,7 @@ use Rattle.parts.proofs.Prefixes.{different, prefix-is}
 use Rattle.parts.proofs.Marking.{still-found}
 use Rattle.built_tables.specs.Built.{dictionaryOf, Built}
 use Rattle.tables.specs.Tables.{tables}
-use Rattle.dictionary.specs.Build.{sameHash}
-use Rattle.dictionary.specs.Steps.{Searched}
+use Rattle.dictionary.specs.Steps.{sharedHash, Searched}
 use Rattle.dictionary.proofs.Rows.{places-ready, distinct, fillable}
 
 -- a row with these bytes is no lower than the first one
@@ -38,7 +37,7 @@ find-low (r ∷ rs) b (suc i) h e = go (equal r b) refl (find-low rs b i (omega 
 
 -- the search area and the prefixes are filled for rows that differ
 module _ (file table prefixes area prefixes' area' : List ℕ) (factor n : ℕ)
-    (passed : checkOf file ≡ Rows n) (written : take n table ≡ places file) (none : n ≤ sameHash file factor)
+    (passed : checkOf file ≡ Rows n) (written : take n table ≡ places file) (none : n ≤ sharedHash file factor)
     (prefixes-room : n ≤ length prefixes) (area-room : 16384 ≤ length area) (F : Filled file table n prefixes area prefixes' area') where
   rows-found : RowsFound file table area' n
   rows-found = record {
@@ -50,14 +49,13 @@ module _ (file table prefixes area prefixes' area' : List ℕ) (factor n : ℕ)
 
   pub searched : Searched file table prefixes' area' n
   searched = record {
-    places-are = written;
     rows-found = rows-found;
     prefixes-found = record { room = omega (arith, F .prefixes-filled .prefixes-length); are = F .prefixes-filled .prefix (rows-found .finds) };
   }
 
 -- all rows have parts
 module _ (file table prefixes area lefts rights lefts' rights' area' : List ℕ) (n without : ℕ)
-    (passed : checkOf file ≡ Rows n) (S : Searched file table prefixes area n) (P : PartsFilled file lefts rights area lefts' rights' area' n without) (all : n ≤ without) where
+    (passed : checkOf file ≡ Rows n) (written : take n table ≡ places file) (S : Searched file table prefixes area n) (P : PartsFilled file lefts rights area lefts' rights' area' n without) (all : n ≤ without) where
   count : n ≡ length (rows file)
   count = S .rows-found .places-ready .count
 
@@ -84,7 +82,7 @@ module _ (file table prefixes area lefts rights lefts' rights' area' : List ℕ)
   is-built = record {
     passed = passed;
     accepted = rows-accepted;
-    places-are = S .places-are;
+    places-are = written;
     lefts-room = omega (arith, P .known .left-room);
     lefts-are = λ c h. sym (ap (partOr (λ p. p .left) c) (parts-are c h));
     rights-room = omega (arith, P .known .right-room);

@@ -2,6 +2,7 @@
 use mathlib.Core.Path.{_≡_, sym, ap, _∙_}
 use mathlib.Core.Logic.{⊎-elim}
 use mathlib.Core.List.{List, [], _∷_, _++_}
+use mathlib.Core.Bool.{Bool}
 use Prim.Native.Nat.{ℕ, _≤_, _<_}
 use native.Mathlib.Decide.{decLt}
 use native.Mathlib.Omega.{arith}
@@ -18,13 +19,13 @@ use Rattle.placed_rows.specs.Rows.{row}
 use Rattle.placed_rows.proofs.Placing.{row-none}
 use Rattle.tables.specs.Ready.{PlacesReady}
 use Rattle.pair_check.specs.Pair.{Distinct}
-use Rattle.fnv.specs.Fnv.{rowHash}
-use Rattle.clashes.specs.Clashes.{firstClash, hashes}
-use Rattle.clashes.proofs.Laws.{clash-within, clash-none-rows}
+use Rattle.clashes.specs.Clashes.{firstWith, sharesHash}
+use Rattle.clashes.proofs.Laws.{apart}
 use Rattle.search_area.specs.Area.{Whole}
 use Rattle.search_fill.specs.Filled.{Fillable}
 use Rattle.theory.proofs.Lists.{lt-or-ge}
-use Rattle.dictionary.specs.Build.{sameHash}
+use Rattle.dictionary.specs.Build.{bytesAt}
+use Rattle.dictionary.specs.Steps.{sharedHash}
 
 module _ (file : List ℕ) (n : ℕ) (passed : checkOf file ≡ Rows n) where
   checked : Accepted file n
@@ -98,27 +99,24 @@ module _ (file : List ℕ) (n : ℕ) (passed : checkOf file ≡ Rows n) where
       short = λ c h. let f = places-ready .short c h in omega (arith, ap length (row-read c));
     }
 
-    module _ (factor : ℕ) where
-      hash-is : hashes file table n factor ≡ (λ i. rowHash (getD (rows file) i []) factor)
-      hash-is = λ k i. rowHash (row-read i k) factor
+    -- the lowest row that passes a test with an earlier one, of the rows as they are read
+    pub first-is : (test : (ℕ → List ℕ) → ℕ → ℕ → Bool)
+        → firstWith (test (row file table n)) n ≡ firstWith (test (bytesAt file)) (length (rows file))
+    first-is test =
+        ap (λ (bytes : ℕ → List ℕ). firstWith (test bytes) n) (λ k i. row-read i k) ∙ ap (firstWith (test (bytesAt file))) (checked .count)
 
-      pub clash-is : firstClash (hashes file table n factor) n ≡ sameHash file factor
-      unfolding sameHash
-      clash-is = ap (λ (f : ℕ → ℕ). firstClash f n) hash-is ∙ ap (firstClash (λ i. rowHash (getD (rows file) i []) factor)) (checked .count)
+    -- where no row has the hash of an earlier row, rows differ
+    module _ (factor : ℕ) (none : n ≤ sharedHash file factor) where
+      differ : (c d : ℕ) → c < n → d < n → row file table n c ≡ row file table n d → c ≡ d
+      unfolding sharedHash
+      differ = apart (row file table n) factor n (omega (arith, first-is (λ bytes. sharesHash bytes factor)))
 
-      -- where no row has the hash of an earlier row, rows differ
-      module _ (none : n ≤ sameHash file factor) where
-        no-clash : firstClash (hashes file table n factor) n ≡ n
-        no-clash = omega (arith, clash-is, clash-within (hashes file table n factor) n)
+      pub distinct : Distinct file
+      distinct u v hu hv e = let k = checked .count in differ u v (omega arith) (omega arith) (row-read u ∙ e ∙ sym (row-read v))
 
-        pub distinct : Distinct file
-        distinct u v hu hv e =
-            let k = checked .count in
-            clash-none-rows file table n factor no-clash u v (omega arith) (omega arith) (row-read u ∙ e ∙ sym (row-read v))
-
-        pub fillable : Fillable (row file table n) n
-        fillable = record {
-          filled = λ c h. let f = places-ready .filled c h in omega (arith, ap length (row-read c));
-          whole = whole;
-          distinct = λ c d hc hd e. clash-none-rows file table n factor no-clash c d hc hd e;
-        }
+      pub fillable : Fillable (row file table n) n
+      fillable = record {
+        filled = λ c h. let f = places-ready .filled c h in omega (arith, ap length (row-read c));
+        whole = whole;
+        distinct = differ;
+      }

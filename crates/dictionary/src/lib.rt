@@ -2,10 +2,11 @@
 // a must-fail edit proves its whole crate again.
 ghost use mathlib.Core.Path.{_≡_};
 ghost use mathlib.Core.Bool.{false};
-ghost use Prim.Native.Nat.{_≤_};
+ghost use Prim.Native.Nat.{_<_, _≤_};
 ghost use lib.ListN.{length};
 ghost use Rattle.dictionary.specs.Build.{tooShort, cleared, allCleared, BuildIs};
-ghost use Rattle.dictionary.specs.Steps.{Buildable, RowsFit, RowsFilled, TablesFilled};
+ghost use Rattle.dictionary.specs.Steps.{Buildable, RowsFit, RowsFilled, ClashTold, TablesFilled};
+ghost use Rattle.placed_rows.specs.Rows.{Placed};
 ghost use Rattle.tables.specs.Tables.{given, lent, left, before, after};
 use causes::BuildAnswer;
 use causes::Cause;
@@ -73,7 +74,8 @@ fn clear_all(
 }
 
 // Writes the places, looks for two rows with one hash and, where there are none, fills the prefixes and the search
-// area. Says which row is the lowest with the hash of an earlier row, n where there is none.
+// area. Says which row is the lowest with the hash of an earlier row, n where there is none. So a file that is accepted
+// needs no look at the bytes of two rows.
 fn fill_rows(
     file: &[u8],
     factor: u64,
@@ -87,15 +89,30 @@ fn fill_rows(
         (after places) (after prefixes) (after area) r ⌝ }
 {
     phrase_file::fill_places(file, places);
-    let clash = clashes::first_clash(file, places, n, factor, area);
-    if clash < n {
-        return clash;
+    let lowest = clashes::first_shared(file, places, n, factor, area);
+    if lowest < n {
+        return lowest;
     }
     search_fill::fill(file, places, prefixes, area, n);
-    clash
+    lowest
 }
 
-// Fills the tables and the search area of a file that passes the checks, or refuses it by 5 or 6.
+// Why a file is refused in which `shared` is the lowest row with the hash of an earlier one: two rows are equal (5), or
+// else these two are different rows with one hash (13).
+fn clash_cause(file: &[u8], places: &[u32], n: usize, shared: usize, area: &mut [u32]) -> Cause
+    requires { ⌜ Placed (now file) (now places) n ⌝ }
+    requires { ⌜ 16384 ≤ length (now area) ⌝ }
+    requires { ⌜ shared < n ⌝ }
+    ensures { λ r. ⌜ ClashTold (before file) (before places) n shared (before area) (after area) r ⌝ }
+{
+    let equal = clashes::first_equal(file, places, n, area);
+    if equal < n {
+        return Cause::EqualRow(equal as u32);
+    }
+    Cause::SameHash(shared as u32)
+}
+
+// Fills the tables and the search area of a file that passes the checks, or refuses it by 5, 13 or 6.
 fn fill_tables(
     file: &[u8],
     factor: u64,
@@ -110,9 +127,9 @@ fn fill_tables(
     ensures { λ r. ⌜ TablesFilled factor n (lent file places lefts rights prefixes area)
         (left file places lefts rights prefixes area) r ⌝ }
 {
-    let same_hash = fill_rows(file, factor, places, prefixes, area, n);
-    if same_hash < n {
-        return BuildAnswer::Refused(Cause::SameHash(same_hash as u32));
+    let shared = fill_rows(file, factor, places, prefixes, area, n);
+    if shared < n {
+        return BuildAnswer::Refused(clash_cause(file, places, n, shared, area));
     }
     let without = parts::fill_parts(file, places, lefts, rights, prefixes, area, n);
     if without < n {

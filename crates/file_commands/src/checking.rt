@@ -34,7 +34,7 @@ fn say_accepted(file: &[u8], n: usize) {
 }
 
 // Builds the file at the front of a buffer with a factor, and says what became of it.
-fn check_bytes(buffer: &File, size: usize, factor: u64) {
+fn check_bytes(name: &[u8], buffer: &File, size: usize, factor: u64) {
     let file = front(buffer, size);
     let mut places = [0u32; 4096];
     let mut lefts = [0u32; 4096];
@@ -42,6 +42,7 @@ fn check_bytes(buffer: &File, size: usize, factor: u64) {
     let mut prefixes = [0u32; 4096];
     let mut area = [0u32; 16384];
     match build(
+        name,
         file,
         factor,
         &mut places,
@@ -59,7 +60,7 @@ fn check_bytes(buffer: &File, size: usize, factor: u64) {
 fn check_with(name: &[u8], factor: u64) {
     let mut file = [0u8; 65536];
     match read_file(name, &mut file) {
-        Loaded::Size(size) => check_bytes(&file, size, factor),
+        Loaded::Size(size) => check_bytes(name, &file, size, factor),
         Loaded::Nothing => {}
     }
 }

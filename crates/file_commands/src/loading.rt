@@ -5,8 +5,10 @@ use causes::BuildAnswer;
 use causes::Cause;
 use tool_io::Source;
 use tool_io::read_named;
+use tool_io::say_cause_fields;
 use tool_io::say_cause_result;
 use tool_io::say_failed;
+use tool_io::say_quoted;
 use tool_io::say_refusal;
 use words::front;
 use words::say;
@@ -29,7 +31,7 @@ pub enum Loaded {
     Nothing,
 }
 
-// The factors that are tried, from 1 on, where two rows have the same hash.
+// The factors that are tried, from 1 on, where two different rows have one hash.
 pub const FACTORS: u64 = 64;
 
 // Whether a refusal can end with another factor.
@@ -43,7 +45,7 @@ fn wants_factor(answer: BuildAnswer) -> bool {
     }
 }
 
-// The lowest of the factors tried under which no two rows have the same hash; 0 if there is none.
+// The lowest of the factors tried under which no two rows clash; 0 if there is none.
 pub(crate) fn find_factor(
     file: &[u8],
     places: &mut Table,
@@ -71,9 +73,33 @@ pub(crate) fn find_factor(
     0
 }
 
+// The end of a clash's refusal: a factor that helps, or 0 if none of those tried does, for people and for a script.
+fn say_factor(cause: Cause, name: &[u8], factor: u64) {
+    if factor == 0 {
+        say(
+            b"\nnone of the factors 1 to 64 helps: take one of the two words out, or try a larger factor\nresult: ",
+        );
+        say_cause_fields(cause);
+        say(b" factor=none\n");
+        return;
+    }
+    say(b"\nunder factor ");
+    say_number(factor);
+    say(b" no two rows clash: phrases check ");
+    say_quoted(name);
+    say(b" ");
+    say_number(factor);
+    say(b"\nresult: ");
+    say_cause_fields(cause);
+    say(b" factor=");
+    say_number(factor);
+    say(b"\n");
+}
+
 // A refusal, whole. For a clash the factor that helps is named, if one of those tried does.
 fn say_refused(
     cause: Cause,
+    name: &[u8],
     file: &[u8],
     factor: u64,
     places: &mut Table,
@@ -83,21 +109,17 @@ fn say_refused(
     area: &mut Area,
 ) {
     say_refusal(cause, file, factor);
-    if wants_factor(BuildAnswer::Refused(cause)) {
-        let other = find_factor(file, places, lefts, rights, prefixes, area);
-        if other == 0 {
-            say(b"\nnone of the factors 1 to 64 helps");
-        } else {
-            say(b"\nwith factor ");
-            say_number(other);
-            say(b" no two rows have the same hash");
-        }
+    if !wants_factor(BuildAnswer::Refused(cause)) {
+        say_cause_result(cause);
+        return;
     }
-    say_cause_result(cause);
+    let other = find_factor(file, places, lefts, rights, prefixes, area);
+    say_factor(cause, name, other);
 }
 
-// Builds a file with a factor, and says the refusal, if it is one.
+// Builds the file of this name with a factor, and says the refusal, if it is one.
 pub(crate) fn build(
+    name: &[u8],
     file: &[u8],
     factor: u64,
     places: &mut Table,
@@ -110,7 +132,17 @@ pub(crate) fn build(
     match answer {
         BuildAnswer::Rows(_) => {}
         BuildAnswer::Refused(cause) => {
-            say_refused(cause, file, factor, places, lefts, rights, prefixes, area)
+            say_refused(
+                cause,
+                name,
+                file,
+                factor,
+                places,
+                lefts,
+                rights,
+                prefixes,
+                area,
+            )
         }
     }
     answer
@@ -158,6 +190,7 @@ fn usual_factor(
 
 // Builds the file at the front of a buffer, with the usual factor; whether it was accepted.
 fn build_usual(
+    name: &[u8],
     buffer: &File,
     size: usize,
     places: &mut Table,
@@ -171,7 +204,7 @@ fn build_usual(
 {
     let file = front(buffer, size);
     let factor = usual_factor(file, places, lefts, rights, prefixes, area);
-    match build(file, factor, places, lefts, rights, prefixes, area) {
+    match build(name, file, factor, places, lefts, rights, prefixes, area) {
         BuildAnswer::Rows(_) => Loaded::Size(size),
         BuildAnswer::Refused(_) => Loaded::Nothing,
     }
@@ -190,7 +223,7 @@ pub fn load(
     ensures { λ r. ⌜ Loads r ⌝ }
 {
     match read_file(name, file) {
-        Loaded::Size(size) => build_usual(file, size, places, lefts, rights, prefixes, area),
+        Loaded::Size(size) => build_usual(name, file, size, places, lefts, rights, prefixes, area),
         Loaded::Nothing => Loaded::Nothing,
     }
 }

@@ -7,6 +7,7 @@ use tool_io::Source;
 use tool_io::Written;
 use tool_io::read_named;
 use tool_io::say_argument;
+use tool_io::say_cause_fields;
 use tool_io::say_error_result;
 use tool_io::say_failed;
 use tool_io::say_many;
@@ -64,10 +65,8 @@ fn say_result(rows: usize, size: usize, answer: BuildAnswer) {
     match answer {
         BuildAnswer::Rows(_) => say(b" check=accepted\n"),
         BuildAnswer::Refused(cause) => {
-            say(b" check=refused cause=");
-            say_number(causes::cause_number(cause) as u64);
-            say(b" place=");
-            say_number(causes::cause_place(cause));
+            say(b" check=");
+            say_cause_fields(cause);
             say(b"\n");
         }
     }

@@ -13,6 +13,7 @@ pub use files::say_error_result;
 pub use files::say_failed;
 pub use files::write_named;
 pub use refusals::say_cause;
+pub use refusals::say_cause_fields;
 pub use refusals::say_cause_result;
 pub use refusals::say_refusal;
 pub use refusals::say_row;

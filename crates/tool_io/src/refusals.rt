@@ -23,12 +23,18 @@ pub fn say_cause(cause: Cause) {
     say(b"): ");
 }
 
-// The end of a refusal: the line for a script.
-pub fn say_cause_result(cause: Cause) {
-    say(b"\nresult: refused cause=");
+// A refusal for a script: `refused cause=6 place=0`.
+pub fn say_cause_fields(cause: Cause) {
+    say(b"refused cause=");
     say_number(causes::cause_number(cause) as u64);
     say(b" place=");
     say_number(causes::cause_place(cause));
+}
+
+// The end of a refusal: the line for a script.
+pub fn say_cause_result(cause: Cause) {
+    say(b"\nresult: ");
+    say_cause_fields(cause);
     say(b"\n");
 }
 
@@ -115,24 +121,23 @@ fn say_missing(byte: u8) {
     say(b"' to the sheet");
 }
 
-// Cause 5. Two rows with the same bytes have the same hash under every factor.
+// Cause 5.
+fn say_equal(file: &[u8], row: usize) {
+    say_row(file, row);
+    say(b" stands in row ");
+    say_number(row_with(file, bytes_of(file, row)) as u64);
+    say(b" already; take one of the two out");
+}
+
+// Cause 13. No two rows are equal, so the first row with the hash is the other one.
 fn say_clash(file: &[u8], row: usize, factor: u64) {
-    let bytes = bytes_of(file, row);
-    let first = row_with(file, bytes);
-    if first < row {
-        say_row(file, row);
-        say(b" stands in row ");
-        say_number(first as u64);
-        say(b" already; take one of the two out");
-        return;
-    }
+    let hash = fnv::hash_bytes(bytes_of(file, row), factor);
     say_row(file, row);
     say(b" has the hash of ");
-    say_row(
-        file,
-        row_with_hash(file, fnv::hash_bytes(bytes, factor), factor),
-    );
-    say(b"; take another factor (phrases check FILE FACTOR)");
+    say_row(file, row_with_hash(file, hash, factor));
+    say(b" under factor ");
+    say_number(factor);
+    say(b"; both words may stay, take another factor");
 }
 
 // The first byte of a row whose own row does not stand above it; the row's length if all do.
@@ -173,6 +178,7 @@ pub fn say_refusal(cause: Cause, file: &[u8], factor: u64) {
         Cause::BadRecord(at) => say_bad_record(file, at),
         Cause::RowCount(n) => say_row_count(n),
         Cause::MissingByte(byte) => say_missing(byte),
+        Cause::EqualRow(row) => say_equal(file, row as usize),
         Cause::SameHash(row) => say_clash(file, row as usize, factor),
         Cause::NoParts(row) => say_no_parts(file, row as usize),
         _ => say_other(cause),

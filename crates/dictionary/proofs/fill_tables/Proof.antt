@@ -1,6 +1,6 @@
 -- Rests on what the rows and then the parts leave, and on the answers for them. Assumes nothing.
 use native.Mathlib.Omega.{arith}
-use Rattle.dictionary.proofs.Filling.{few, rows-fit, hash-filled, parts-fit, parts-filled, rows-filled}
+use Rattle.dictionary.proofs.Filling.{few, rows-fit, rows-placed, clash-room, clash-filled, parts-fit, parts-filled, rows-filled}
 use borrow.Author.Needs.{needs}
 use Rattle.dictionary.proofs.fill_tables.Statement.{statement}
 use Rattle.dictionary.proofs.fill_tables.Tie as tie
@@ -8,8 +8,11 @@ use Rattle.dictionary.proofs.fill_tables.Tie as tie
 fill-rows-requires : tie.Need-fill-rows-requires
 fill-rows-requires c κs = rows-fit _ _ _ (c .before .before .before .before .before .before .before .before .before .pre)
 
-cast-t18 : tie.Need-cast-t18
-cast-t18 c = omega (arith, few _ _ _ (c .before .before .before .before .before .before .before .before .before .before .before .before .before .before .before .before .before .pre))
+clash-cause-requires : tie.Need-clash-cause-requires
+clash-cause-requires c κs =
+    let A = c .before .before .before .before .before .before .before .before .before .before .before .before .before .before .before .before .before .before .before .pre in
+    let R = c .before .before .before .before .before .before .before .before .before .fill-rows .ensures in
+    (rows-placed _ _ _ A _ _ _ _ R, (clash-room _ _ _ A _ _ _ _ R, omega arith))
 
 same-length : tie.Need-same-length
 same-length c = search needs
@@ -21,13 +24,13 @@ same-length-3 : tie.Need-same-length-3
 same-length-3 c = search needs
 
 returns : tie.Need-returns
-returns c = hash-filled _ _ _ (c .before .before .before .before .before .before .before .before .before .before .before .before .before .before .before .before .before .pre) _ _ _ _ (c .before .before .before .before .before .before .before .fill-rows .ensures) (c .if1 .taken)
+returns c = clash-filled _ _ _ (c .before .before .before .before .before .before .before .before .before .before .before .before .before .before .before .before .before .before .before .before .before .before .pre) _ _ _ _ (c .before .before .before .before .before .before .before .before .before .before .before .before .fill-rows .ensures) _ _ (c .before .before .clash-cause .ensures) (c .before .before .before .before .before .if1 .taken)
 
 fill-parts-requires : tie.Need-fill-parts-requires
 fill-parts-requires c κs = parts-fit _ _ _ (c .before .before .before .before .before .before .before .before .before .before .before .before .before .before .before .before .before .before .before .before .before .before .pre) _ _ _ _ (c .before .before .before .before .before .before .before .before .before .before .before .before .fill-rows .ensures) (omega arith)
 
-cast-t30 : tie.Need-cast-t30
-cast-t30 c = omega (arith, few _ _ _ (c .before .before .before .before .before .before .before .before .before .before .before .before .before .before .before .before .before .before .before .before .before .before .before .before .before .before .before .before .before .before .pre))
+cast-t33 : tie.Need-cast-t33
+cast-t33 c = omega (arith, few _ _ _ (c .before .before .before .before .before .before .before .before .before .before .before .before .before .before .before .before .before .before .before .before .before .before .before .before .before .before .before .before .before .before .pre))
 
 same-length-4 : tie.Need-same-length-4
 same-length-4 c = search needs
@@ -70,13 +73,13 @@ fill-tables-spec =
     tie.close
     (tie.spec
     fill-rows-requires
-    cast-t18
+    clash-cause-requires
     same-length
     same-length-2
     same-length-3
     returns
     fill-parts-requires
-    cast-t30
+    cast-t33
     same-length-4
     same-length-5
     same-length-6

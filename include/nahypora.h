@@ -14,9 +14,9 @@
  *        bad record (its offset)                   9 text over 4,096 bytes, or over 4,096 codes (0)
  *      3 under 256 or over 4,096 rows (n)         10 code not below n (index of the first)
  *      4 a byte value without a row (lowest)      11 interval start above end, or end above text (0)
- *      5 same hash as an earlier row (row)        12 push or extend beyond the slice or 4,096 (length)
- *      6 longer row without parts (row)
- * After a refusal every buffer is as it was, but for 5 and 6 of the build. On success output beyond the answer is unchanged; a work
+ *      5 same bytes as an earlier row (row)       12 push or extend beyond the slice or 4,096 (length)
+ *      6 longer row without parts (row)           13 same hash as an earlier row of other bytes (row)
+ * After a refusal every buffer is as it was, but for 5, 13 and 6 of the build. On success output beyond the answer is unchanged; a work
  * buffer may hold anything in as many numbers as the text has bytes, and is unchanged beyond.
  */
 #ifndef NAHYPORA_H
@@ -41,9 +41,11 @@ static inline uint32_t bpe_place(uint64_t result) { return (uint32_t)result; }
         size_t lefts_len, const uint32_t *rights, size_t rights_len, const uint32_t *prefixes, size_t prefixes_len,    \
         const uint32_t *area, size_t area_len
 
-/* Fills the tables and the search area; the answer is n. The factor multiplies the rows' hashes: take 1, or another one where cause 5
- * comes. Causes in order: 1, 2, 3, 4, 7, 5, 6. After 5 and 6 the first n numbers of each table and the first 16,384 of the area are
- * BPE_NONE, the rest unchanged; after the others nothing is changed. */
+/* Fills the tables and the search area; the answer is n. The factor multiplies the rows' hashes: take 1, or another one where cause 13
+ * comes, two different rows with one hash: both may stay. 5, two equal rows, comes under every factor. Causes in order: 1, 2, 3, 4, 7,
+ * 5, 13, 6; each of 5, 13 and 6 is looked for over the whole file, so that 13 comes only where no two rows are equal. After 5, 13 and 6
+ * the first n numbers of each table and the first 16,384 of the area are BPE_NONE, the rest unchanged; after the others nothing is
+ * changed. */
 uint64_t bpe_from_dictionary(const uint8_t *file, size_t file_len, uint64_t factor, uint32_t *places, size_t places_len,
                              uint32_t *lefts, size_t lefts_len, uint32_t *rights, size_t rights_len, uint32_t *prefixes,
                              size_t prefixes_len, uint32_t *area, size_t area_len);

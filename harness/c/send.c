@@ -1,4 +1,5 @@
-/* The library from C: a phrase file of 256 bytes, "ra", "in" and "rain"; a message sent, counted and decoded; a refusal told. */
+/* The library from C: a phrase file of 256 bytes, "ra", "in" and "rain"; a message sent, counted and decoded; refusals told, and what
+ * ends them: another factor where two different rows clash, no factor where two rows are equal. */
 #include "nahypora.h"
 #include <stdio.h>
 #include <string.h>
@@ -23,14 +24,22 @@ static size_t letters(size_t at) {
     return at;
 }
 
+static size_t put_rows(size_t at, const char *const *rows, size_t count) {
+    for (size_t i = 0; i < count; i++)
+        at = put_row(at, rows[i], strlen(rows[i]));
+    return at;
+}
+
+static uint64_t build(size_t size, uint64_t factor) {
+    return bpe_from_dictionary(file, size, factor, places, 300, lefts, 300, rights, 300, prefixes, 300, area, BPE_AREA);
+}
+
 #define TABLES file, size, places, 300, lefts, 300, rights, 300, prefixes, 300, area, BPE_AREA
 
 int main(void) {
-    size_t size = letters(0);
-    size = put_row(size, "ra", 2);
-    size = put_row(size, "in", 2);
-    size = put_row(size, "rain", 4);
-    uint64_t built = bpe_from_dictionary(file, size, 1, places, 300, lefts, 300, rights, 300, prefixes, 300, area, BPE_AREA);
+    const char *const rain[] = {"ra", "in", "rain"};
+    size_t size = put_rows(letters(0), rain, 3);
+    uint64_t built = build(size, 1);
     printf("build: cause %u, place %u\n", (unsigned)bpe_cause(built), (unsigned)bpe_place(built));
 
     const char *text = "rain again";
@@ -46,7 +55,17 @@ int main(void) {
 
     size = put_row(0, "rain", 4);
     size = letters(size);
-    uint64_t refused = bpe_from_dictionary(file, size, 1, places, 300, lefts, 300, rights, 300, prefixes, 300, area, BPE_AREA);
+    uint64_t refused = build(size, 1);
     printf("a word above its letters: cause %u, row %u\n", (unsigned)bpe_cause(refused), (unsigned)bpe_place(refused));
+
+    const char *const clash[] = {"cu", "ru", "lo", "curu", "curulo", "da", "ba", "dacu", "dacuba", "cu"};
+    size = put_rows(letters(0), clash, 9);
+    uint64_t factor = 1;
+    for (built = build(size, factor); bpe_cause(built) == 13; built = build(size, ++factor))
+        printf("factor %u: row %u clashes with an earlier one\n", (unsigned)factor, (unsigned)bpe_place(built));
+    printf("factor %u: cause %u, place %u\n", (unsigned)factor, (unsigned)bpe_cause(built), (unsigned)bpe_place(built));
+    size = put_rows(letters(0), clash, 10);
+    refused = build(size, factor);
+    printf("a word that stands there already: cause %u, row %u\n", (unsigned)bpe_cause(refused), (unsigned)bpe_place(refused));
     return 0;
 }

@@ -167,6 +167,19 @@ fn large(random: &mut Random) -> Vec<Vec<u8>> {
     rows
 }
 
+/// The rows of the known clash behind the others, those that are not there yet; sometimes an equal row anywhere.
+fn with_clash(random: &mut Random, rows: &mut Vec<Vec<u8>>) {
+    for row in files::clash().split_off(256) {
+        if !rows.contains(&row) {
+            rows.push(row);
+        }
+    }
+    if random.once_in(3) {
+        let row = random.pick(rows).clone();
+        rows.insert(random.below(rows.len() + 1), row);
+    }
+}
+
 pub fn case(seed: u64) -> Case {
     let mut random = Random::new(seed);
     let letters = random.within(1, 4);
@@ -189,7 +202,7 @@ pub fn case(seed: u64) -> Case {
         2 => Some(Damage::Add(vec![0xc7, 0x51, random.below(70) as u8])),
         _ => None,
     };
-    let factor = match random.below(40) {
+    let mut factor = match random.below(40) {
         0 => 0,
         1 => 1,
         2 => 1 << random.within(32, 63),
@@ -198,6 +211,10 @@ pub fn case(seed: u64) -> Case {
     let mut spare = [(); 5].map(|_| random.below(5) as i32);
     if random.once_in(30) {
         spare[random.below(5)] = -1;
+    }
+    if random.once_in(50) {
+        with_clash(&mut random, &mut rows);
+        factor = random.within(1, 3) as u64;
     }
     Case { seed, rows, damage, factor, spare }
 }

@@ -32,6 +32,11 @@ pub fn g() -> Vec<Vec<u8>> {
     rows
 }
 
+/// B and rows of which "curulo" (row 260) and "dacuba" (row 264) have one hash under factor 1, but not under 2.
+pub fn clash() -> Vec<Vec<u8>> {
+    with(&["cu", "ru", "lo", "curu", "curulo", "da", "ba", "dacu", "dacuba"])
+}
+
 /// The grid file: B, "00" to "99", "000" to "999".
 pub fn grid() -> Vec<Vec<u8>> {
     let mut rows = bytes();

@@ -1,8 +1,9 @@
-//! A model of document 01, plain and slow, that knows neither the original nor our code. Parts and pairs are told by
+//! A model of document 01 with the requests of document 02 that have landed (1), plain and slow, that knows neither the original nor our code. Parts and pairs are told by
 //! the merge procedure: the parts of a row are the two rows that merging its bytes over the rows before it leaves, and
 //! two rows pass if merging their bytes leaves these two.
 use ours::{Refusal, AREA, NONE};
 use std::collections::{HashMap, HashSet};
+use std::hash::Hash;
 
 pub fn hash(bytes: &[u8], factor: u64) -> u32 {
     let mut hash: u64 = 0xcbf29ce484222325;
@@ -94,6 +95,17 @@ pub struct Tables {
 /// The sizes of the lent buffers: the four tables, then the area.
 pub type Sizes = [usize; 5];
 
+/// The lowest number of a thing that also stands before it.
+fn first_again<T: Eq + Hash>(mut things: impl Iterator<Item = T>) -> Option<usize> {
+    let mut seen = HashSet::new();
+    things.position(|thing| !seen.insert(thing))
+}
+
+/// Whether a refusal of build leaves none in the tables and the area.
+pub fn clears(cause: u32) -> bool {
+    matches!(cause, 5 | 6 | 13)
+}
+
 /// The answer of build, with the tables if it accepts.
 pub fn build(file: &[u8], factor: u64, sizes: Sizes) -> Result<Tables, Refusal> {
     if factor == 0 {
@@ -103,9 +115,12 @@ pub fn build(file: &[u8], factor: u64, sizes: Sizes) -> Result<Tables, Refusal> 
     if sizes[..4].iter().any(|&size| size < rows.len()) || sizes[4] < AREA {
         return refused(7, 0);
     }
-    let mut hashes = HashSet::new();
-    if let Some(row) = rows.iter().position(|row| !hashes.insert(hash(row, factor))) {
+    if let Some(row) = first_again(rows.iter()) {
         return refused(5, row);
+    }
+    // No two rows are equal: rows with one hash have different bytes.
+    if let Some(row) = first_again(rows.iter().map(|row| hash(row, factor))) {
+        return refused(13, row);
     }
     let numbers = numbers(&rows);
     let mut tables = Tables { places: vec![], lefts: vec![], rights: vec![], prefixes: vec![] };
@@ -318,6 +333,22 @@ mod tests {
         assert!(!passes(&numbers(&f), b"a", b"aa"));
         assert!(passes(&numbers(&f), b"aa", b"a"));
         assert_eq!(built(&files::g()), refused(6, 0));
+    }
+
+    /// Document 02, ticket 1: 5 is told of equal rows under any factor, 13 of a clash where no two rows are equal.
+    #[test]
+    fn equal_rows_and_clashes() {
+        let cause = |rows: &[Vec<u8>], factor| {
+            build(&files::file_of(rows), factor, [4096, 4096, 4096, 4096, AREA]).err().map(|r| (r.cause, r.place))
+        };
+        let twice = files::with(&["ab", "ab"]);
+        assert_eq!([cause(&twice, 1), cause(&twice, 2)], [Some((5, 257)); 2]);
+        assert_eq!([cause(&files::clash(), 1), cause(&files::clash(), 2)], [Some((13, 264)), None]);
+        let both = [files::clash(), vec![b"cu".to_vec()]].concat();
+        assert_eq!(cause(&both, 1), Some((5, 265)));
+        // The original fails one assertion for both.
+        assert!(original::build(twice, 1).is_err() && original::build(files::clash(), 1).is_err());
+        assert!(original::build(files::clash(), 2).is_ok());
     }
 
     /// The samples on texts, and the limit of document 01's rule that is no fact about the text.

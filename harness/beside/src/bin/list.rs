@@ -94,7 +94,7 @@ impl List {
             }
             (Ok(_), Err(panic)) => panic!("the original refuses: {panic}"),
             (Err(refusal), rust) => {
-                assert!(refusal.cause != 5 || rust.is_err(), "the original accepts two rows of one hash");
+                assert!(!matches!(refusal.cause, 5 | 13) || rust.is_err(), "the original accepts two rows of one hash");
                 self.refused_build(line, refusal);
                 None
             }
@@ -102,7 +102,7 @@ impl List {
     }
 
     fn refused_build(&mut self, line: String, Refusal { cause, place }: Refusal) {
-        let state = if cause == 5 || cause == 6 { "none" } else { "unchanged" };
+        let state = if model::clears(cause) { "none" } else { "unchanged" };
         self.case(line, cause, place.into(), format!("{}\n", format!(" {state}").repeat(5)).as_bytes());
     }
 
@@ -330,9 +330,16 @@ fn main() {
     // Refused files.
     let mut missing = files::with(&["ab"]);
     missing.remove(200);
-    for rows in
-        [files::g(), files::with(&["abc"]), files::with(&["ab", "cd", "ab"]), missing, files::bytes()[..255].to_vec()]
-    {
+    let clash_and_equal = [files::clash(), vec![b"cu".to_vec()]].concat();
+    for rows in [
+        files::g(),
+        files::with(&["abc"]),
+        files::with(&["ab", "cd", "ab"]),
+        files::clash(),
+        clash_and_equal,
+        missing,
+        files::bytes()[..255].to_vec(),
+    ] {
         assert!(list.build(&rows, 1).is_none());
     }
     assert!(list.build(&files::bytes(), 0).is_none());

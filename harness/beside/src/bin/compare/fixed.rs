@@ -57,6 +57,24 @@ fn refused() -> Vec<Vec<Vec<u8>>> {
     all
 }
 
+/// Equal rows and clashes, under factors that bring the clash and that do not: a clash alone, with an equal row above it or below it, beside a row
+/// without parts, a row that equals one row and clashes with another, and equal rows alone.
+fn clashing() -> Vec<(Vec<Vec<u8>>, u64)> {
+    let row = |text: &str| vec![text.as_bytes().to_vec()];
+    let files = [
+        files::clash(),
+        [files::clash(), row("cu")].concat(),
+        [row("dacuba"), files::clash()].concat(),
+        [row("ab"), files::clash()].concat(),
+        [files::clash(), row("curulo")].concat(),
+        [files::clash(), row("dacuba")].concat(),
+        files::with(&["ab", "ab"]),
+        files::with(&["a"]),
+    ];
+    let factors = [1, 2, 3, 1 << 32, 1 << 48, 1 << 63];
+    files.iter().flat_map(|rows| factors.map(|factor| (rows.clone(), factor))).collect()
+}
+
 /// Texts of each length and kind.
 fn compare_boundaries(case: &Case, seen: &mut Seen) -> Result<(), String> {
     let mut random = Random::new(case.seed);
@@ -90,6 +108,10 @@ pub fn all() -> (usize, impl Iterator<Item = Job>) {
     let mut jobs: Vec<Job> = vec![];
     for rows in refused() {
         let case = Case { seed: 0, rows, damage: None, factor: 1, spare: [0; 5] };
+        jobs.push(Box::new(move |seen| compare_shrinking(case, seen)));
+    }
+    for (rows, factor) in clashing() {
+        let case = Case { seed: 0, rows, damage: None, factor, spare: [2; 5] };
         jobs.push(Box::new(move |seen| compare_shrinking(case, seen)));
     }
     for rows in small.iter().chain(&large).cloned() {

@@ -106,7 +106,7 @@ impl Buffer {
 
 /// Document 01's table of causes: what a refusal leaves.
 fn compare_after_refusal(buffer: &Buffer, cause: u32, n: usize) -> Result<(), String> {
-    let cleared = cause == 5 || cause == 6;
+    let cleared = model::clears(cause);
     for (i, lent) in buffer.0.iter().enumerate() {
         let size = if !cleared {
             0

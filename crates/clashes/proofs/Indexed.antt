@@ -1,16 +1,16 @@
 -- The rows that stand in the scratch while first_sought looks at them in order. Assumes nothing.
 use mathlib.Core.Path.{_≡_, refl, sym, ap, _∙_}
 use mathlib.Core.List.{List}
-use mathlib.Core.Bool.{Bool, true, false, not, _&&_, _||_}
+use mathlib.Core.Bool.{Bool, true, false, _&&_, _||_}
 use Prim.Native.Nat.{ℕ, suc, _+_, _%_, _≤_, _<_}
 use native.Mathlib.Numerals.{add-one}
 use native.Mathlib.Decide.{decLt, ℕ-discrete}
 use native.Mathlib.Omega.{arith}
 use lib.ListN.{length, getD, drop}
 use lib.Dec.{eqb}
-use borrow.Author.Tests.{eq-eqb, ne-eqb, eqb-true}
+use borrow.Author.Tests.{eqb-true}
 use Rattle.theory.specs.Lists.{equal}
-use Rattle.theory.proofs.Lists.{true-false, bool-cases, equal-eq}
+use Rattle.theory.proofs.Lists.{bool-cases, equal-eq}
 use Rattle.fnv.specs.Fnv.{rowHash}
 use Rattle.clashes.specs.Clashes.{seen, firstWith, Found}
 use Rattle.clashes.specs.Buckets.{emptied, head, stored, listed, pushed, isSought, sought}
@@ -72,10 +72,11 @@ indexed-start hash test entry area e = record {
   free = λ j m. absurd (omega arith);
 }
 
+-- the hash of each row
 abbrev pub hashOf : (ℕ → List ℕ) → ℕ → ℕ → ℕ
 hashOf bytes factor i = rowHash (bytes i) factor
 
--- the same for the rows as they are read, and what is looked for
+-- the rows that were looked at, of rows with these bytes, by what is looked for
 abbrev pub Looked : (ℕ → List ℕ) → ℕ → Bool → ℕ → List ℕ → List ℕ → Type 0
 Looked bytes factor exact = Indexed (hashOf bytes factor) (sought bytes factor exact)
 
@@ -97,7 +98,7 @@ module _ (bytes : ℕ → List ℕ) (factor : ℕ) (exact : Bool) where
     asked true j m = rw (I .stores j m, hashed, e) (go (equal (bytes j) (bytes i)) refl)
       where
         go : (q : Bool) → equal (bytes j) (bytes i) ≡ q → eqb (hashOf bytes factor j) (hashOf bytes factor i) && equal (bytes j) (bytes i) ≡ equal (bytes j) (bytes i)
-        go true q = rw (equal-shares bytes factor 0 i j (equal-eq (bytes j) (bytes i) q))
+        go true q = rw (equal-shares bytes factor i j (equal-eq (bytes j) (bytes i) q))
         go false q = rw q (and-false (eqb (hashOf bytes factor j) (hashOf bytes factor i)))
     asked false j m = rw (I .stores j m, hashed) (and-true (eqb (hashOf bytes factor j) (hashOf bytes factor i)))
 

@@ -6,7 +6,6 @@ use mathlib.Core.Bool.{Bool, true, false, not, _&&_, _||_}
 use Prim.Native.Nat.{ℕ, zero, suc, _≤_, _<_}
 use native.Mathlib.Decide.{decLt}
 use native.Mathlib.Omega.{arith}
-use lib.Dec.{eqb}
 use borrow.Author.Tests.{eq-eqb}
 use Rattle.theory.specs.Lists.{equal}
 use Rattle.theory.proofs.Lists.{true-false, bool-cases, equal-eq}
@@ -78,11 +77,11 @@ module _ (test : ℕ → ℕ → Bool) (n : ℕ) where
   first-same test' f =
       lowest-same (λ k. seen (test k) k) (λ k. seen (test' k) k) n (λ i l. seen-same (test i) (test' i) i (λ j m. f i j l m))
 
-module _ (bytes : ℕ → List ℕ) (factor n : ℕ) where
-  -- rows of equal bytes have one hash
-  pub equal-shares : (i j : ℕ) → bytes j ≡ bytes i → sharesHash bytes factor i j ≡ true
-  equal-shares i j e = eq-eqb _ _ (ap (λ (t : List ℕ). rowHash t factor) e)
+-- rows of equal bytes have one hash
+pub equal-shares : (bytes : ℕ → List ℕ) (factor i j : ℕ) → bytes j ≡ bytes i → sharesHash bytes factor i j ≡ true
+equal-shares bytes factor i j e = eq-eqb _ _ (ap (λ (t : List ℕ). rowHash t factor) e)
 
+module _ (bytes : ℕ → List ℕ) (factor n : ℕ) where
   -- no two rows have one hash
   module _ (none : n ≤ firstWith (sharesHash bytes factor) n) where
     -- so rows of equal bytes are one row
@@ -90,7 +89,7 @@ module _ (bytes : ℕ → List ℕ) (factor n : ℕ) where
     apart i j a b e = go (decLt i j) (decLt j i)
       where
         never : (i j : ℕ) → i < n → j < i → bytes j ≡ bytes i → ⊥
-        never i j l m q = true-false (sym (equal-shares i j q) ∙ none-pass (sharesHash bytes factor) n none i j l m)
+        never i j l m q = true-false (sym (equal-shares bytes factor i j q) ∙ none-pass (sharesHash bytes factor) n none i j l m)
 
         go : Dec (i < j) → Dec (j < i) → i ≡ j
         go (yes l) d = absurd (never j i b l e)

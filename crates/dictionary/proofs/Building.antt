@@ -1,12 +1,11 @@
 -- The answers of build, each with the tables after it. Assumes nothing.
 use mathlib.Core.Path.{_≡_, refl, sym, ap, _∙_}
 use mathlib.Core.Option.{Option, none, some}
-use mathlib.Core.List.{List}
 use mathlib.Core.Bool.{Bool, true, false, cond, _||_}
 use Prim.Native.Nat.{ℕ, _≤_, _<_}
 use native.Mathlib.Omega.{arith}
 use lib.ListN.{length}
-use lib.Dec.{ltb, eqb}
+use lib.Dec.{ltb}
 use borrow.Author.Tests.{lt-ltb, le-ltb, eq-eqb, ne-eqb}
 use Rattle.causes.specs.declared.Cause.{Cause}
 use Rattle.causes.specs.declared.Cause.the-variants.{FactorZero, BadRecord, RowCount, MissingByte, EqualRow, SameHash, NoParts, TooShort}
@@ -21,7 +20,7 @@ use Rattle.phrase_file.specs.Checks.{missingByte, fileConditions, checkOf}
 use Rattle.phrase_file.proofs.Checks.{accepted}
 use Rattle.parts.specs.Parts.{firstWithout}
 use Rattle.tables.specs.Tables.{Tables}
-use Rattle.clashes.specs.Clashes.{firstWith, isEqual, sharesHash}
+use Rattle.clashes.specs.Clashes.{firstWith, sharesHash}
 use Rattle.clashes.proofs.Laws.{none-equal, none-clashes, shared-clashes}
 use Rattle.dictionary.specs.Build.{tooShort, bytesAt, equalRow, sameHash, rowConditions, buildRefusal, allCleared, clears, afterRefusal, BuildIs}
 use Rattle.dictionary.specs.Steps.{rowsAnswer, sharedHash, Buildable, TablesFilled}

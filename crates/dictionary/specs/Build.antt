@@ -72,7 +72,7 @@ allCleared n T =
     tables (T .file) (cleared n (T .places)) (cleared n (T .lefts)) (cleared n (T .rights)) (cleared n (T .prefixes))
     (cleared areaSize (T .area))
 
--- the causes after which the tables are cleared: 5 and 6 "as for 5", and 13, "buffers as for 5"
+-- the causes after which the tables are cleared: 5, 6 ("as for 5") and 13 ("buffers as for 5")
 abbrev pub clears : Cause → Bool
 clears cause =
     eqb (refusalOf cause .number) 5 || (eqb (refusalOf cause .number) 13 || eqb (refusalOf cause .number) 6)

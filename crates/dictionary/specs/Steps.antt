@@ -62,8 +62,8 @@ pub record RowsFilled (file : List ℕ) (factor n : ℕ) (placeTable prefixes ar
   pub prefixes-beyond : drop n prefixes' ≡ drop n prefixes
   pub area-beyond : drop areaSize area' ≡ drop areaSize area
 
--- why n rows are refused of which `shared` is the lowest with the hash of an earlier one: 5 if `equal` has the bytes of
--- one, else 13
+-- why n rows are refused of which `shared` is the lowest with the hash of an earlier one: 5 if a row `equal` has the
+-- bytes of an earlier one, else 13
 abbrev pub clashCause : ℕ → ℕ → ℕ → Cause
 clashCause n shared equal = elim (ltb equal n) [ true ↦ EqualRow equal | false ↦ SameHash shared ]
 

@@ -1,7 +1,8 @@
-use lib.ListN.{length}
-use native.Mathlib.Omega.{arith}
+-- `clashes::first_sought` meets its contract. The loop's invariant: the rows looked at stand in the scratch, and none of them has what is looked for of an earlier one. Assumes nothing.
+use mathlib.Core.Path.{_≡_}
 use Prim.Native.Nat.{_≤_, _-_}
-use mathlib.Core.Path.{_≡_, sym}
+use native.Mathlib.Omega.{arith}
+use lib.ListN.{length}
 use Rattle.placed_rows.specs.Rows.{row as rowOf}
 use Rattle.clashes.proofs.Indexed.{Looked, indexed-start, stops, goes-on, whole-kept, found-at, found-none}
 use borrow.Author.Needs.{needs}

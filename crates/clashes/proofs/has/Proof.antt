@@ -1,8 +1,8 @@
 -- `clashes::has` meets its contract. The loop's invariant: the list from row `at`, over the rows below `below`, gives the bucket's answer. Assumes nothing.
-use lib.ListN.{getD}
-use native.Mathlib.Omega.{arith}
-use Prim.Native.Nat.{ℕ, _≤_}
 use mathlib.Core.Path.{_≡_, sym, ap, _∙_}
+use Prim.Native.Nat.{ℕ, _≤_}
+use native.Mathlib.Omega.{arith}
+use lib.ListN.{getD}
 use Rattle.placed_rows.specs.Rows.{row}
 use Rattle.clashes.specs.Buckets.{head, listed, isSought}
 use Rattle.clashes.proofs.Chains.{listed-out, listed-here, listed-on}

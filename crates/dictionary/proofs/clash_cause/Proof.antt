@@ -1,5 +1,4 @@
 -- Rests on what the search for equal rows found. Assumes nothing.
-use native.Mathlib.Omega.{arith}
 use Rattle.dictionary.proofs.Filling.{told-equal, told-hash}
 use borrow.Author.Needs.{needs}
 use Rattle.dictionary.proofs.clash_cause.Statement.{statement}

@@ -1,5 +1,5 @@
-"""Looks for words of syllables that clash. Found: curulo and dacuba under factor 1, and not under 2; bosineri and butipodo
-under each of the factors 1 to 64."""
+"""Looks for words of syllables that clash. Found: curulo and dacuba under factor 1, and not under 2; bosineri and
+butipodo under each of the factors 1 to 64."""
 import itertools
 from model import row_hash
 

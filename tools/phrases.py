@@ -162,7 +162,8 @@ def refusal(cause, place, file, factor):
     if cause == 13:
         hashes = [model.row_hash(r, factor) for r in rows]
         other = row(rows, hashes.index(hashes[place]))
-        return f"{row(rows, place)} has the hash of {other} under factor {factor}; both words may stay, take another factor"
+        return (f"{row(rows, place)} has the hash of {other} under factor {factor}; "
+                "both words may stay, take another factor")
     for byte in rows[place]:
         letter = bytes([byte])
         if rows.index(letter) > place:

@@ -23,7 +23,8 @@ link area c = getD area (4096 + c) 0
 abbrev pub stored : List ℕ → ℕ → ℕ
 stored area c = getD area (8192 + c) 0
 
--- whether a row that passes the test is met from row x on along the links, over rows below k: a link goes to a lower row
+-- whether a row that passes the test is met from row x on along the links, over rows below k: a link goes to a lower
+-- row
 unfoldable pub listed : List ℕ → (ℕ → Bool) → ℕ → ℕ → Bool
 listed area test zero x = false
 listed area test (suc k) x = elim (eqb x k) [

@@ -1,6 +1,6 @@
 // The lowest row with the bytes of an earlier row, and the lowest with the hash of one, found by a table of hashes in a
-// scratch buffer. Document 02 calls two rows of different bytes with one hash a clash, hence the name. Where no two rows
-// are equal, the lowest row with the hash of an earlier one is the lowest that clashes.
+// scratch buffer. Document 02 calls two rows of different bytes with one hash a clash, hence the name. Where no two
+// rows are equal, the lowest row with the hash of an earlier one is the lowest that clashes.
 ghost use mathlib.Core.Path.{_≡_};
 ghost use Prim.Native.Nat.{_%_, _<_, _≤_};
 ghost use lib.ListN.{length};

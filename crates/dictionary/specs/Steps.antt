@@ -25,8 +25,8 @@ use Rattle.dictionary.specs.Build.{tooShort, bytesAt, rowConditions, bey
 unfoldable pub rowsAnswer : ℕ → Tables → ℕ → BuildAnswer
 rowsAnswer factor T n = saying toRows (firstOf buildOrder (rowConditions factor (T .file) n)) n
 
--- the lowest row with the hash of an earlier row, whatever their bytes, n where there is none: while there is none, there
--- is neither 5 nor 13
+-- the lowest row with the hash of an earlier row, whatever their bytes, n where there is none: then there is neither 5
+-- nor 13
 unfoldable pub sharedHash : List ℕ → ℕ → ℕ
 sharedHash file factor = firstWith (sharesHash (bytesAt file) factor) (length (rows file))
 

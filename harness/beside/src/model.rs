@@ -1,6 +1,6 @@
-//! A model of document 01 with the requests of document 02 that have landed (1), plain and slow, that knows neither the original nor our code. Parts and pairs are told by
-//! the merge procedure: the parts of a row are the two rows that merging its bytes over the rows before it leaves, and
-//! two rows pass if merging their bytes leaves these two.
+//! A model of document 01 with the requests of document 02 that have landed (1), plain and slow, that knows neither the
+//! original nor our code. Parts and pairs are told by the merge procedure: the parts of a row are the two rows that
+//! merging its bytes over the rows before it leaves, and two rows pass if merging their bytes leaves these two.
 use ours::{Refusal, AREA, NONE};
 use std::collections::{HashMap, HashSet};
 use std::hash::Hash;

@@ -57,8 +57,8 @@ fn refused() -> Vec<Vec<Vec<u8>>> {
     all
 }
 
-/// Equal rows and clashes, under factors that bring the clash and that do not: a clash alone, with an equal row above it or below it, beside a row
-/// without parts, a row that equals one row and clashes with another, and equal rows alone.
+/// Equal rows and clashes, under factors that bring the clash and that do not: a clash alone, with an equal row above it
+/// or below it, beside a row without parts, a row that equals one row and clashes with another, and equal rows alone.
 fn clashing() -> Vec<(Vec<Vec<u8>>, u64)> {
     let row = |text: &str| vec![text.as_bytes().to_vec()];
     let files = [

@@ -6,5 +6,4 @@ pub mod Nexts
 pub mod Moves
 pub mod Stepping
 pub mod Running
-pub mod Limiting
 pub mod Copying

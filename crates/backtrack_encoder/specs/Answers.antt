@@ -4,17 +4,9 @@ use mathlib.Core.List.{List, _++_}
 use Prim.Native.Nat.{ℕ, _≤_, _<_}
 use lib.ListN.{length, getD, take, drop}
 use Rattle.theory.specs.Merge.{encode}
-use Rattle.theory.specs.Backtracking as Backtracking
 use Rattle.built_tables.specs.Built.{Built, dictionaryOf}
-use Rattle.backtrack_encoder.specs.declared.Limited.{Limited}
-use Rattle.backtrack_encoder.specs.declared.Limited.the-variants.{Counted, Over}
 use Rattle.backtrack_encoder.specs.Encoder.{TextReady}
 use Rattle.tables.specs.Tables.{Tables}
-
--- document 01's answer for each case of the enum: the count, or "over"
-abbrev pub limitedOf : Limited → Backtracking.Limited
-limitedOf (Counted n) = Backtracking.counted n
-limitedOf Over = Backtracking.over
 
 -- as TextReady, with an output that has one number per byte of the text
 pub record OutputReady (T : Tables) (n : ℕ) (text out work : List ℕ) : Type 0 where
@@ -50,10 +42,3 @@ module _ (T : Tables) (n : ℕ) (text : List ℕ) where
     pub work-length : length work' ≡ length work
     pub work-beyond : drop (length text) work' ≡ drop (length text) work
     pub built : Built T n → r ≡ length (encode (dictionaryOf file) text)
-
-  -- the count, or "over"; a count is no more than the text's length, and does not pass the limit
-  pub record LimitedIs (limit : ℕ) (work : List ℕ) (r : Limited) (work' : List ℕ) : Type 0 where
-    pub few : (count : ℕ) → limitedOf r ≡ Backtracking.counted count → (count ≤ length text) × (count ≤ limit)
-    pub work-length : length work' ≡ length work
-    pub work-beyond : drop (length text) work' ≡ drop (length text) work
-    pub built : Built T n → limitedOf r ≡ Backtracking.countTillLimit (dictionaryOf file) text limit

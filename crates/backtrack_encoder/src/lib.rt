@@ -2,18 +2,15 @@
 // that run it. The codes stand in the work buffer while they change and are copied to the output at the end, since
 // document 01 wants output beyond the answer unchanged.
 ghost use mathlib.Core.Path.{_≡_};
-ghost use mathlib.Core.List.{List, _++_};
-ghost use Prim.Native.Nat.{ℕ, _+_, _^_, _-_, _<_, _≤_, min};
+ghost use mathlib.Core.List.{_++_};
+ghost use Prim.Native.Nat.{_<_, _≤_};
 ghost use lib.ListN.{length, take, drop};
 ghost use Rattle.marks.specs.Layout.{areaSize};
-ghost use Rattle.theory.specs.Dictionary.{Dictionary};
-ghost use Rattle.theory.specs.Backtracking.{final};
 ghost use Rattle.tables.specs.Tables.{given, lent, pairLent, before, after};
 ghost use Rattle.tables.specs.Ready.{PlacesReady, PartsReady};
 ghost use Rattle.backtrack_encoder.specs.Encoder.{TextReady, RowsReady, EncoderReady};
 ghost use Rattle.backtrack_encoder.specs.Steps.{EndsIn, FitsIs, FirstFitIs, Started, Added, TakenBack, Stepped};
-ghost use Rattle.backtrack_encoder.specs.Answers.{limitedOf, OutputReady, Backtracked, EncodedInto, CountIs};
-ghost use Rattle.backtrack_encoder.specs.Answers.{LimitedIs};
+ghost use Rattle.backtrack_encoder.specs.Answers.{OutputReady, Backtracked, EncodedInto, CountIs};
 use bitfield::all_set;
 use bitfield::bit_is_set;
 use bitfield::clear_bit;
@@ -29,12 +26,6 @@ pub struct BacktrackEncoder {
     pub count: usize,
     pub pos: usize,
     pub next: u32,
-}
-
-// The answer of a count with a limit.
-pub enum Limited {
-    Counted(usize),
-    Over,
 }
 
 // Whether a row passes with the last code, and its end is in the text and not dead.
@@ -322,75 +313,4 @@ pub fn count_core(
         n (before text) (before work) r (after work) ⌝ }
 {
     backtrack(file, places, lefts, rights, prefixes, area, n, text, work)
-}
-
-// A limit and 10, or the largest number.
-fn buffered(limit: u64) -> u64
-    ensures { λ r. ⌜ r ≡ min (limit + 10) (2 ^ 64 - 1) ⌝ }
-{
-    if u64::MAX - limit < 10 {
-        u64::MAX
-    } else {
-        limit + 10
-    }
-}
-
-// The final count, or "over" if it passes the limit.
-fn within(count: usize, limit: u64) -> Limited
-    ensures { λ r. ⌜ ((D : Dictionary) (text : List ℕ) → limitedOf r ≡ final D text limit count) ⌝ }
-{
-    if limit < count as u64 {
-        Limited::Over
-    } else {
-        Limited::Counted(count)
-    }
-}
-
-// The number of codes of a text, or "over".
-pub fn count_till_limit_core(
-    file: &[u8],
-    places: &[u32],
-    lefts: &[u32],
-    rights: &[u32],
-    prefixes: &[u32],
-    area: &[u32],
-    n: usize,
-    text: &[u8],
-    limit: u64,
-    work: &mut [u32],
-) -> Limited
-    requires { ⌜ TextReady (given file places lefts rights prefixes area) n (now text) (now work) ⌝ }
-    ensures { λ r. ⌜ LimitedIs (lent file places lefts rights prefixes area)
-        n (before text) limit (before work) r (after work) ⌝ }
-{
-    let limit_with_buffer = buffered(limit);
-    let mut alive = all_set();
-    let mut encoder = start(file, places, area, n, text);
-    let mut steps = 2 * text.len();
-    while steps > 0 {
-        if encoder.next == NONE {
-            return within(encoder.count, limit);
-        }
-        encoder = step(
-            file,
-            places,
-            lefts,
-            rights,
-            prefixes,
-            area,
-            n,
-            text,
-            encoder,
-            work,
-            &mut alive,
-        );
-        steps -= 1;
-        if encoder.next == NONE {
-            continue;
-        }
-        if limit_with_buffer < encoder.count as u64 {
-            return Limited::Over;
-        }
-    }
-    within(encoder.count, limit)
 }

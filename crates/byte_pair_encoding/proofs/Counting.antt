@@ -8,13 +8,14 @@ use Rattle.causes.specs.declared.Cause.{Cause}
 use Rattle.causes.specs.Call.{toNumber}
 use Rattle.causes.proofs.Calls.{call-refused, call-given}
 use Rattle.phrase_file.specs.Form.{rows}
-use Rattle.theory.specs.Backtracking.{Limited, counted, over}
+use Rattle.theory.specs.CountLimit.{Limited, counted, over}
 use Rattle.tables.specs.Tables.{Tables}
 use Rattle.causes.specs.declared.Answer.the-variants.{Number, Refused}
 use Rattle.tables.specs.InForm.{formOf}
-use Rattle.backtrack_encoder.specs.declared.Limited as Backtrack
 use Rattle.backtrack_encoder.specs.Encoder.{TextReady}
-use Rattle.backtrack_encoder.specs.Answers as Answers
+use Rattle.backtrack_encoder.specs.Answers.{CountIs}
+use Rattle.limited_count.specs.declared.Limited as Limit
+use Rattle.limited_count.specs.Answers.{limitedOf, LimitedIs}
 use Rattle.byte_pair_encoding.specs.declared.Check.the-variants as Check
 use Rattle.causes.specs.declared.LimitAnswer.{LimitAnswer}
 use Rattle.causes.specs.declared.LimitAnswer.the-variants as LimitAnswer
@@ -48,7 +49,7 @@ module _ (T : Tables) (text work : List ℕ) where
     pub count-ready : TextReady T n text work
     count-ready = record { tables = p .tables; short = p .short; room = p .work-room }
 
-    pub text-counted : (work' : List ℕ) (count : ℕ) → Answers.CountIs T n text work count work'
+    pub text-counted : (work' : List ℕ) (count : ℕ) → CountIs T n text work count work'
         → Counts T text work work' (Number count)
     text-counted work' count s = call-given toNumber not-refused count (record {
       few = s .few;
@@ -56,11 +57,11 @@ module _ (T : Tables) (text work : List ℕ) where
       built = λ m B. s .built (built-count T m n (p .count) B);
     })
 
-    pub text-limited : (limit : ℕ) (work' : List ℕ) (l : Backtrack.Limited) (r : LimitAnswer)
-        → Answers.LimitedIs T n text limit work l work' → r ≡ limitGiven (Answers.limitedOf l)
+    pub text-limited : (limit : ℕ) (work' : List ℕ) (l : Limit.Limited) (r : LimitAnswer)
+        → LimitedIs T n text limit work l work' → r ≡ limitGiven (limitedOf l)
         → CountsTillLimit T text limit work work' r
     text-limited limit work' l r s a =
-        rw a (call-given toLimited not-refused (Answers.limitedOf l) (record {
+        rw a (call-given toLimited not-refused (limitedOf l) (record {
           few = s .few;
           worked = record { work-length = s .work-length; work-beyond = s .work-beyond };
           built = λ m B. s .built (built-count T m n (p .count) B);

@@ -1,7 +1,7 @@
 -- What a caller has of the contracts: over tables that an accepting build left, with a text of at most 4,096 bytes and room for it, no call is
 -- refused and the answer is the definition's; a refusal changes nothing. Assumes nothing.
 use mathlib.Core.Path.{_≡_, refl, sym, ap, _∙_}
-use mathlib.Core.Logic.{_⊎_}
+use mathlib.Core.Logic.{_↔_}
 use mathlib.Core.Option.{Option, none, some}
 use mathlib.Core.List.{List, _++_}
 use Prim.Native.Nat.{ℕ, _≤_, _<_}
@@ -12,10 +12,10 @@ use Rattle.causes.specs.declared.Cause.the-variants.{TooShort, OutOfForm, TooLo
 use Rattle.causes.specs.Call.{toNumber}
 use Rattle.causes.proofs.Calls.{refused-answer, given-answer}
 use Rattle.phrase_file.specs.Form.{rows}
-use Rattle.theory.specs.Dictionary.{Dictionary, Octets}
+use Rattle.theory.specs.Dictionary.{Dictionary}
 use Rattle.theory.specs.Merge.{encode}
-use Rattle.theory.specs.Backtracking.{Limited, counted, over, start, countTillLimit, PassedAfter}
-use Rattle.theory.proofs.Demands.{limited-count-is, limited-count-over, limited-count-over-only}
+use Rattle.theory.specs.CountLimit.{Limited, counted, over, countTillLimit}
+use Rattle.theory.proofs.Demands.{limited-count-is, limited-count-over}
 use Rattle.tables.specs.Tables.{Tables}
 use Rattle.causes.specs.declared.Answer.{Answer}
 use Rattle.causes.specs.declared.Answer.the-variants.{Number, Refused}
@@ -125,19 +125,14 @@ module _ (T : Tables) (text : List ℕ) (limit : ℕ) (work work' : List ℕ) (r
     over-of (counted m) e = absurd (let z : _≡_ {A = ℕ} 0 1 = cc in omega arith)
     over-of over e = refl
 
-    module _ (o : Octets text) where
-      -- a count that is given is the number of the merge procedure's codes, and does not pass the limit
-      pub limits-counted : (k : ℕ) → r ≡ LimitAnswer.Counted k → (k ≡ length (encode (dictionaryOf file) text)) × (k ≤ limit)
-      unfolding dictionaryOf
-      limits-counted k e = limited-count-is (rows file) (B .accepted) text o limit k (counted-of _ k (sym limits-count ∙ e))
+    -- a count that is given is the number of the merge procedure's codes, and does not exceed the limit
+    pub limits-counted : (k : ℕ) → r ≡ LimitAnswer.Counted k → (k ≡ length (encode (dictionaryOf file) text)) × (k ≤ limit)
+    unfolding dictionaryOf
+    limits-counted k e = limited-count-is (rows file) (B .accepted) text limit k (counted-of _ k (sym limits-count ∙ e))
 
-      -- a number of codes that passes the limit is "over"
-      pub limits-over : limit < length (encode (dictionaryOf file) text) → r ≡ LimitAnswer.Over
-      unfolding dictionaryOf
-      limits-over h = limits-count ∙ ap limitGiven (limited-count-over (rows file) (B .accepted) text o limit h)
-
-      -- it is "over" only then, or if the running count passed limit + 10 after a step that did not finish the text
-      pub limits-over-only : r ≡ LimitAnswer.Over
-          → (limit < length (encode (dictionaryOf file) text)) ⊎ ((j : ℕ) × PassedAfter (dictionaryOf file) text limit j (start (dictionaryOf file) text))
-      unfolding dictionaryOf
-      limits-over-only e = limited-count-over-only (rows file) (B .accepted) text o limit (over-of _ (sym limits-count ∙ e))
+    -- it is "over" exactly if that number exceeds the limit
+    pub limits-over : (r ≡ LimitAnswer.Over) ↔ (limit < length (encode (dictionaryOf file) text))
+    unfolding dictionaryOf
+    limits-over =
+        let q = limited-count-over (rows file) (B .accepted) text limit in
+        (λ e. q .0 (over-of _ (sym limits-count ∙ e)), λ h. limits-count ∙ ap limitGiven (q .1 h))

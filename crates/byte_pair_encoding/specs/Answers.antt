@@ -7,7 +7,7 @@ use Rattle.causes.specs.declared.LimitAnswer.{LimitAnswer}
 use Rattle.causes.specs.declared.LimitAnswer.the-variants.{Counted, Over, Refused}
 use Rattle.causes.specs.Causes.{limitAnswerOf}
 use Rattle.causes.specs.Call.{Told}
-use Rattle.theory.specs.Backtracking.{Limited, counted, over}
+use Rattle.theory.specs.CountLimit.{Limited, counted, over}
 use Rattle.byte_pair_encoding.specs.declared.Check.{Check}
 use Rattle.byte_pair_encoding.specs.declared.Check.the-variants as Check
 

@@ -7,7 +7,7 @@ use Rattle.causes.specs.declared.Answer.{Answer}
 use Rattle.causes.specs.declared.LimitAnswer.{LimitAnswer}
 use Rattle.causes.specs.Call.{Call, toNumber}
 use Rattle.theory.specs.Merge.{encode}
-use Rattle.theory.specs.Backtracking.{Limited, counted, countTillLimit}
+use Rattle.theory.specs.CountLimit.{Limited, counted, countTillLimit}
 use Rattle.tables.specs.Tables.{Tables}
 use Rattle.built_tables.specs.Built.{dictionaryOf, Built}
 use Rattle.byte_pair_encoding.specs.Answers.{toLimited}

@@ -11,7 +11,7 @@ ghost use Rattle.phrase_file.specs.Form.{rows};
 ghost use Rattle.theory.specs.Merge as Merge;
 ghost use Rattle.theory.specs.Shortest.{shortest, greedy};
 ghost use Rattle.tables.specs.Tables.{given, lent, before, after};
-ghost use Rattle.backtrack_encoder.specs.Answers as Answers;
+ghost use Rattle.limited_count.specs.Answers.{limitedOf};
 ghost use Rattle.byte_pair_encoding.specs.Refusals.{sendRefusal};
 ghost use Rattle.byte_pair_encoding.specs.Answers.{checkedOf, limitGiven};
 ghost use Rattle.byte_pair_encoding.specs.Sending.{Sends};
@@ -19,13 +19,13 @@ ghost use Rattle.byte_pair_encoding.specs.Methods.{methodOf};
 ghost use Rattle.byte_pair_encoding.specs.declared.Check.the-variants.{Rows};
 ghost use Rattle.causes.specs.declared.Answer.the-variants.{Number};
 ghost use Rattle.byte_pair_encoding.specs.Counting.{Counts, CountsTillLimit};
-use backtrack_encoder::Limited;
 use backtrack_encoder::count_core;
-use backtrack_encoder::count_till_limit_core;
 use backtrack_encoder::encode_via_backtracking_core;
 use causes::Answer;
 use causes::Cause;
 use causes::LimitAnswer;
+use limited_count::Limited;
+use limited_count::count_till_limit_core;
 use merge_encoder::encode_via_bitfield_core;
 use shortest_encoder::encode_greedy_core;
 use shortest_encoder::encode_minimal_core;
@@ -49,7 +49,7 @@ enum Encoder {
 
 // The count or "over" as an answer.
 fn told(limited: Limited) -> LimitAnswer
-    ensures { λ r. ⌜ r ≡ limitGiven (Answers.limitedOf limited) ⌝ }
+    ensures { λ r. ⌜ r ≡ limitGiven (limitedOf limited) ⌝ }
 {
     match limited {
         Limited::Counted(count) => LimitAnswer::Counted(count),

@@ -262,7 +262,7 @@ pub fn seam_key(a: u8, b: u8) -> usize
 
 // Whether the seam of two bytes is marked: if not, no row has a left part that ends in a and a right part that begins
 // with b.
-fn may_join(area: &[u32], a: u8, b: u8) -> bool
+pub fn may_join(area: &[u32], a: u8, b: u8) -> bool
     requires { ⌜ areaSize ≤ length (now area) ⌝ }
     ensures { λ r. ⌜ r ≡ marked (now (area .entry)) seams (seamKey a b) ⌝ }
 {

@@ -53,7 +53,7 @@ pub fn encode_all_prefixes(
 }
 
 // The bytes before row `code` where it ends the first `pos` bytes; none where the row is longer.
-fn bytes_before(file: &[u8], places: &[u32], n: usize, pos: usize, code: u32) -> usize
+pub fn bytes_before(file: &[u8], places: &[u32], n: usize, pos: usize, code: u32) -> usize
     requires { ⌜ RowReady (now file) (now places) n code ⌝ }
     ensures { λ r. ⌜ r ≡ pos - length (dictionaryOf (now (file .entry)) .bytes code) ⌝ }
 {

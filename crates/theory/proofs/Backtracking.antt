@@ -62,8 +62,12 @@ module _ (D : Dictionary) (t : List ℕ) where
   pub step-back : (s : State) → firstFit D (s .stack) (s .dead) (s .next) ≡ none → step D t s ≡ takeBack D (s .stack) (s .dead)
   step-back s e = rw (e, step)
 
+pub codes-length : (K : List ℕ) → length (codes K) ≡ length K
+codes-length [] = refl
+codes-length (c ∷ K) = omega (arith, length-append (codes K) (c ∷ []), codes-length K)
+
 module _ (D : Dictionary) where
-  place-is : (K : List ℕ) → length (spell D (codes K)) ≡ place D K
+  pub place-is : (K : List ℕ) → length (spell D (codes K)) ≡ place D K
   place-is [] = refl
   place-is (c ∷ K) = ap length (spell-snoc D (codes K) c) ∙ length-append (spell D (codes K)) (D .bytes c) ∙ ap (λ (z : ℕ). z + length (D .bytes c)) (place-is K)
 
@@ -85,7 +89,7 @@ module _ (D : Dictionary) where
   follows-last [] c e f = inl refl
   follows-last (x ∷ K) c e f = inr (rw (e, lastOr-append c c (codes K) (x ∷ []) (λ z. nil-cons (sym z))) f)
 
-  known-parts : (a b : List ℕ) → KnownText D (a ++ b) → KnownText D a × KnownText D b
+  pub known-parts : (a b : List ℕ) → KnownText D (a ++ b) → KnownText D a × KnownText D b
   known-parts [] b k = (tt, k)
   known-parts (x ∷ a) b k = let q = known-parts a b (k .1) in ((k .0, q .0), q .1)
 

@@ -1,6 +1,6 @@
 -- What the demands say of code lists, as statements over the definitions alone. Their proofs stand in the other files.
 use mathlib.Core.Path.{_≡_, sym, ap, _∙_}
-use mathlib.Core.Logic.{_⊎_, _↔_}
+use mathlib.Core.Logic.{_↔_}
 use mathlib.Core.List.{List, [], _∷_, _++_}
 use mathlib.Core.Bool.{true, false}
 use Prim.Native.Nat.{ℕ, _+_, _-_, _*_, _≤_, _<_}
@@ -11,7 +11,8 @@ use Rattle.theory.specs.Merge.{encode}
 use Rattle.theory.specs.Paper.{paperCodes}
 use Rattle.theory.specs.PairCheck.{listedBelow, walk, passes, passesJoined}
 use Rattle.theory.specs.Parts.{Accepted, dictionary, withParts, partsBelow, longestAt, prefixes, rowsUpTo, rowsAt}
-use Rattle.theory.specs.Backtracking.{State, Limited, counted, over, start, run, firstFit, finished, backtrack, countTillLimit, PassedAfter}
+use Rattle.theory.specs.Backtracking.{State, start, run, firstFit, finished, backtrack}
+use Rattle.theory.specs.CountLimit.{counted, over, countTillLimit}
 use Rattle.theory.specs.Table.{lastCode, tableCodes}
 use Rattle.theory.specs.Shortest.{shortest}
 use Rattle.theory.specs.Demands.{ExactlyOne, Fewest, Decoded}
@@ -27,7 +28,7 @@ use Rattle.theory.proofs.Longest.{rows-front}
 use Rattle.theory.proofs.Accepted.{lawful, known-text, check-before}
 use Rattle.theory.proofs.Readings.{readings-agree}
 use Rattle.theory.proofs.Backtracking.{backtrack-is, never-empty, run-finished}
-use Rattle.theory.proofs.CountLimit.{count-is, count-over, over-only, passed-over}
+use Rattle.theory.proofs.CountLimit.{final-over, over-only, counted-is}
 use Rattle.theory.proofs.Sides.{end-code, one-end, one-more-code}
 use Rattle.theory.proofs.Typing.{forms-true, trues-form}
 use Rattle.theory.proofs.Table.{tableCodes-encode}
@@ -86,20 +87,14 @@ module _ (rows : List (List ℕ)) (A : Accepted rows) where
       → run D t j (start D t) .stack ≡ [] → ⊥
   nothing-taken-from-an-empty-stack t o = never-empty D L t (known-text rows A t o)
 
-  -- the count with a limit
-  pub limited-count-is : (t : List ℕ) → Octets t → (limit n : ℕ) → countTillLimit D t limit ≡ counted n → (n ≡ length (encode D t)) × (n ≤ limit)
-  limited-count-is t o limit = count-is D t limit L (known-text rows A t o)
+  -- the count with a limit: a count that is given is the number of codes, and "over" is given exactly if that number exceeds the limit
+  pub limited-count-is : (t : List ℕ) (limit n : ℕ) → countTillLimit D t limit ≡ counted n → (n ≡ length (encode D t)) × (n ≤ limit)
+  unfolding countTillLimit
+  limited-count-is t limit = counted-is limit (length (encode D t))
 
-  pub limited-count-over : (t : List ℕ) → Octets t → (limit : ℕ) → limit < length (encode D t) → countTillLimit D t limit ≡ over
-  limited-count-over t o limit = count-over D t limit L (known-text rows A t o)
-
-  -- "over" is given exactly if the final count passes the limit, or the running count passed limit + 10 after a step that did not finish the text
-  pub limited-count-over-only : (t : List ℕ) → Octets t → (limit : ℕ) → countTillLimit D t limit ≡ over
-      → (limit < length (encode D t)) ⊎ ((j : ℕ) × PassedAfter D t limit j (start D t))
-  limited-count-over-only t o limit = over-only D t limit L (known-text rows A t o)
-
-  pub limited-count-passed : (t : List ℕ) → Octets t → (limit j : ℕ) → PassedAfter D t limit j (start D t) → countTillLimit D t limit ≡ over
-  limited-count-passed t o limit = passed-over D t limit L (known-text rows A t o)
+  pub limited-count-over : (t : List ℕ) (limit : ℕ) → (countTillLimit D t limit ≡ over) ↔ (limit < length (encode D t))
+  unfolding countTillLimit
+  limited-count-over t limit = (over-only limit (length (encode D t)), final-over limit (length (encode D t)))
 
   -- 5. The prefix chain from the longest row at a place lists exactly the rows that begin there, longest first
   pub chain-starts-with-the-longest : (t : List ℕ) → Octets t → 0 < length t → rowsAt D t ≡ longestAt D t ∷ prefixes D (longestAt D t)

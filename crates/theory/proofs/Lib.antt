@@ -31,6 +31,7 @@ pub mod Places
 pub mod Candidates
 pub mod Backtracking
 pub mod CountLimit
+pub mod Over
 -- The tree of prefixes, and intervals
 pub mod Tree
 pub mod Interval

@@ -11,9 +11,10 @@ use Rattle.theory.specs.Shortest.{shortest, greedy}
 use Rattle.theory.specs.Typing.{countAt}
 use Rattle.theory.specs.Tree.{intervalCount}
 use Rattle.theory.specs.Backtracking.{backtrack}
+use Rattle.theory.specs.CountLimit.{counted, over, final, countTillLimit}
 use Rattle.theory.specs.Table.{tableCodes, lastCodes, lastCode}
 use Rattle.theory.proofs.AcceptedTest.{isAccepted, accepted-by-test}
-use Rattle.theory.specs.Samples.{E, F, G, Case, cases, abcd}
+use Rattle.theory.specs.Samples.{E, F, G, H, Case, cases, abcd, bsAndC}
 
 -- P1 to P10
 pub samples : map (λ (c : Case). c .given) cases ≡ map (λ (c : Case). c .said) cases
@@ -42,3 +43,12 @@ backtracked = refl
 pub tabled : tableCodes (dictionary E) abcd ≡ 97 ∷ 256 ∷ 100 ∷ []
 unfolding E dictionary partsBelow tableCodes lastCodes lastCode encode
 tabled = refl
+
+-- the count with a limit: E "abcd" with 2 and 3, the empty text with 0, and a b^13 c, of two codes, with 1, 2 and 3
+pub limits :
+    countTillLimit (dictionary E) abcd 2 ∷ countTillLimit (dictionary E) abcd 3 ∷ countTillLimit (dictionary E) [] 0
+    ∷ countTillLimit (dictionary H) (97 ∷ bsAndC 13) 1 ∷ countTillLimit (dictionary H) (97 ∷ bsAndC 13) 2
+    ∷ countTillLimit (dictionary H) (97 ∷ bsAndC 13) 3 ∷ []
+    ≡ over ∷ counted 3 ∷ counted 0 ∷ over ∷ counted 2 ∷ counted 2 ∷ []
+unfolding E H encode dictionary partsBelow countTillLimit final
+limits = refl

@@ -1,13 +1,11 @@
 -- Sending and counting by backtracking: "longest row first; where it doesn't pass with the code before, or its end was
--- marked dead, its next prefix; where none is left, mark the place dead and take back one code". And the count with a
--- limit.
-use mathlib.Core.Path.{_≡_}
+-- marked dead, its next prefix; where none is left, mark the place dead and take back one code".
 use mathlib.Core.List.{List, [], _∷_, _++_}
 use mathlib.Core.Bool.{Bool, true, false, not, _&&_, _||_}
 use mathlib.Core.Option.{Option, none, some}
-use Prim.Native.Nat.{ℕ, zero, suc, _+_, _-_, _*_, _^_, min}
+use Prim.Native.Nat.{ℕ, zero, suc, _+_, _*_}
 use lib.ListN.{length, drop}
-use lib.Dec.{eqb, ltb}
+use lib.Dec.{eqb}
 use Rattle.theory.specs.Dictionary.{Dictionary}
 use Rattle.theory.specs.PairCheck.{passes}
 use Rattle.theory.specs.Parts.{rowsAt, prefixes}
@@ -79,37 +77,3 @@ module _ (D : Dictionary) where
     -- the codes by backtracking: a text of m bytes takes at most 2 m steps
     unfoldable pub backtrack : List ℕ
     backtrack = codes (run (2 * length t) start .stack)
-
--- the answer of a count with a limit
-pub data Limited : Type 0 where
-  counted : ℕ → Limited
-  over : Limited
-
-module _ (D : Dictionary) (t : List ℕ) (limit : ℕ) where
-  -- "limit + 10 (limit of 64 bits, saturating)"
-  abbrev pub buffered : ℕ
-  buffered = min (limit + 10) (2 ^ 64 - 1)
-
-  -- "Over" if "the final count passes the limit; otherwise the count"
-  abbrev pub final : ℕ → Limited
-  final n = elim (ltb limit n) [ true ↦ over | false ↦ counted n ]
-
-  -- "the running count passes limit + 10 .. after a step that doesn't finish the text"
-  abbrev pub passed : State → Bool
-  passed s = not (finished D t s) && ltb buffered (length (s .stack))
-
-  -- "Over" if so
-  abbrev pub runLimited : ℕ → State → Limited
-  runLimited zero s = final (length (s .stack))
-  runLimited (suc k) s = elim (finished D t s) [
-    | true ↦ final (length (s .stack))
-    | false ↦ elim (passed (step D t s))
-        [ true ↦ over | false ↦ runLimited k (step D t s) ]
-  ]
-
-  unfoldable pub countTillLimit : Limited
-  countTillLimit = runLimited (2 * length t) (start D t)
-
-  -- the running count passes after j + 1 steps
-  abbrev pub PassedAfter : ℕ → State → Type 0
-  PassedAfter j s = passed (run D t (suc j) s) ≡ true

@@ -7,6 +7,7 @@ pub mod Merge
 pub mod Paper
 pub mod PairCheck
 pub mod Backtracking
+pub mod CountLimit
 pub mod Table
 pub mod Shortest
 pub mod Typing

@@ -27,6 +27,20 @@ F = bytesFrom 256 0 ((97 ∷ 97 ∷ []) ∷ [])
 unfoldable pub G : List (List ℕ)
 G = (97 ∷ 98 ∷ []) ∷ bytesFrom 256 0 ((98 ∷ 99 ∷ []) ∷ (98 ∷ 99 ∷ 100 ∷ []) ∷ [])
 
+-- n times b, and c
+abbrev pub bsAndC : ℕ → List ℕ
+bsAndC zero = 99 ∷ []
+bsAndC (suc n) = 98 ∷ bsAndC n
+
+-- n rows from b^k c on, before the rows r
+abbrev pub bsFrom : ℕ → ℕ → List (List ℕ) → List (List ℕ)
+bsFrom zero k r = r
+bsFrom (suc n) k r = bsAndC k ∷ bsFrom n (suc k) r
+
+-- B, "bc", "bbc", .. b^13 c, "ab": on the way to the two codes of a b^13 c there are thirteen
+unfoldable pub H : List (List ℕ)
+H = bytesFrom 256 0 (bsFrom 13 1 ((97 ∷ 98 ∷ []) ∷ []))
+
 abbrev pub abcd : List ℕ
 abcd = 97 ∷ 98 ∷ 99 ∷ 100 ∷ []
 

@@ -1,0 +1,3 @@
+pub mod Staying
+pub mod Many
+pub mod Limiting

@@ -1,0 +1,146 @@
+-- The codes up to each place, counted by its last code. Assumes nothing.
+use mathlib.Core.Path.{_≡_, refl, sym, ap, _∙_}
+use mathlib.Core.Logic.{⊎-elim}
+use mathlib.Core.List.{List, [], _∷_}
+use mathlib.Core.Bool.{Bool, true, false}
+use Prim.Native.Nat.{ℕ, suc, _+_, _-_, _≤_, _<_}
+use native.Mathlib.Nat.{eq-or-lt-of-le}
+use native.Mathlib.Numerals.{add-one}
+use native.Mathlib.Omega.{arith}
+use lib.ListN.{length, length-append, length-set, getD, set, take}
+use lib.Seq.{getD-set-same, getD-set-other}
+use lib.Dec.{ltb}
+use borrow.Author.Tests.{lt-ltb, le-ltb}
+use Rattle.theory.specs.Dictionary.{Dictionary}
+use Rattle.theory.specs.Merge.{encode}
+use Rattle.theory.specs.Table.{lastCode}
+use Rattle.theory.proofs.Lists.{true-false, lt-or-ge}
+use Rattle.theory.proofs.Encode.{encode-nil}
+use Rattle.theory.proofs.Table.{last-at, codeAt-lastCode}
+use Rattle.tables.specs.Tables.{PairTables, withPrefixes}
+use Rattle.built_tables.specs.Built.{Built, dictionaryOf}
+use Rattle.built_tables.proofs.Rows.{octets, lawful-is, known}
+use Rattle.end_code.specs.Tables.{RowReady}
+use Rattle.end_code.specs.Codes.{CodeReady, CodeIs}
+use Rattle.end_code.proofs.Sizes.{row-some}
+use Rattle.table_encoder.specs.LastCodes.{PrefixesReady}
+use Rattle.table_encoder.proofs.Filling.{Filling, filling-start, filling-ready, filling-more}
+use Rattle.limited_count.specs.Stops.{inARow, ManyReady, ManyCodes, ManyIs}
+
+module _ (many count limit : ℕ) where
+  pub in-a-row-none : count < limit → inARow many count limit ≡ 0
+  unfolding inARow
+  in-a-row-none h = rw (lt-ltb count limit h, inARow)
+
+  pub in-a-row-more : limit ≤ count → inARow many count limit ≡ suc many
+  unfolding inARow
+  in-a-row-more h = rw (le-ltb count limit h, inARow)
+
+-- each entry before i, and the one that is set there
+at-set : (Q : ℕ → ℕ → Type 0) (l : List ℕ) (i v : ℕ) → i < length l → ((j : ℕ) → j < i → Q j (getD l j 0)) → Q i v
+    → (j : ℕ) → j ≤ i → Q j (getD (set l i v) j 0)
+at-set Q l i v h below here j k = ⊎-elim
+    (λ e. let y : j ≡ i = omega arith in rw (y, getD-set-same l i v 0 h) here)
+    (λ b. rw (getD-set-other l i j v 0 (λ y. omega arith)) (below j b))
+    (eq-or-lt-of-le k)
+
+module _ (P : PairTables) (n : ℕ) (text codes₀ : List ℕ) (limit : ℕ) where
+  open PairTables P using (file, places)
+
+  abbrev D : Dictionary
+  D = dictionaryOf file
+
+  -- the codes up to each of the first i places are counted, the last `many` of them `limit` or more
+  pub record Counting (i many : ℕ) (codes counts : List ℕ) : Type 0 where
+    pub filling : Filling P n text codes₀ i codes
+    pub fits : length text ≤ 512
+    pub room : length text < length counts
+    pub small : (j : ℕ) → j ≤ i → getD counts j 0 ≤ j
+    pub few : many ≤ i
+    pub counts-are : (prefixes : List ℕ) → Built (withPrefixes P prefixes) n
+        → (j : ℕ) → j ≤ i → getD counts j 0 ≡ length (encode D (take j text))
+    pub many-are : (prefixes : List ℕ) → Built (withPrefixes P prefixes) n → ManyCodes file text limit i many
+
+  pub counting-start : (counts : List ℕ) → ManyReady P n text → length text ≤ length codes₀ → length text < length counts
+      → getD counts 0 0 ≡ 0 → Counting 0 0 codes₀ counts
+  counting-start counts R room more z = record {
+    filling = filling-start P n text codes₀ (record { in-form = R .in-form; room = room });
+    fits = R .few;
+    room = more;
+    small = λ j h. let e : j ≡ 0 = omega arith in rw (e, z) (omega arith);
+    few = omega arith;
+    counts-are = λ prefixes B j h.
+        let e : j ≡ 0 = omega arith in
+        rw (e, z) (sym (ap length (encode-nil D (lawful-is (withPrefixes P prefixes) n B))));
+    many-are = λ prefixes B q h l. absurd (omega arith);
+  }
+
+  module _ (i many : ℕ) (codes counts : List ℕ) (C : Counting i many codes counts) where
+    -- 64 places in a row
+    pub counting-many : many ≡ 64 → ManyIs P n text limit true
+    counting-many e = record {
+      many = λ _ prefixes B. record { at = i; inside = C .filling .within; codes = rw e at (C .many-are prefixes B) };
+    }
+
+    pub counting-ready : i < length text → CodeReady P n text i codes
+    counting-ready h = filling-ready P n text codes₀ i codes (C .filling) h
+
+    module _ (h : i < length text) (code : ℕ) (K : CodeIs P true n text i codes code) where
+      pub code-ready : RowReady file places n code
+      code-ready = record { places-ready = C .filling .ready .in-form .places-ready; row = K .row }
+
+      module _ (before : ℕ) (b : before ≡ i + 1 - length (D .bytes code)) where
+        pub before-inside : before ≤ i
+        before-inside = omega (arith, row-some file places n code code-ready)
+
+        pub before-small : getD counts before 0 ≤ before
+        before-small = C .small before before-inside
+
+        module _ (bytes : (j : ℕ) → getD text j 0 < 256) (count : ℕ) (k : count ≡ getD counts before 0 + 1) where
+          -- one code more than before the last one
+          count-is : (prefixes : List ℕ) → Built (withPrefixes P prefixes) n → count ≡ length (encode D (take (i + 1) text))
+          count-is prefixes B =
+              let T = withPrefixes P prefixes in
+              let own : code ≡ lastCode D (take (suc i) text) =
+              K .built prefixes B (λ j l. C .filling .built prefixes B j l ∙ sym (codeAt-lastCode D text j)) ∙ codeAt-lastCode D text i in
+              let r = last-at D (lawful-is T n B) text (known T n B text (octets text bytes)) i h in
+              let e : suc i - length (D .bytes (lastCode D (take (suc i) text))) ≡ before =
+              ap (λ (c : ℕ). suc i - length (D .bytes c)) (sym own) ∙ omega (arith, b) in
+              let d = C .counts-are prefixes B before before-inside in
+              rw add-one
+              (k ∙ omega (
+                arith,
+                d,
+                ap (λ (p : ℕ). length (encode D (take p text))) e,
+                ap length (r .codes),
+                length-append (encode D (take (suc i - length (D .bytes (lastCode D (take (suc i) text)))) text)) (lastCode D (take (suc i) text) ∷ []),
+              ))
+
+          pub counting-more : (many' : ℕ) → many' ≡ inARow many count limit
+              → Counting (i + 1) many' (set codes i code) (set counts (i + 1) count)
+          counting-more many' m = ⊎-elim
+              (λ l. let z : many' ≡ 0 = m ∙ in-a-row-none many count limit l in
+              with-many (omega arith) (λ prefixes B q u v. absurd (omega arith)))
+              (λ l. let z : many' ≡ suc many = m ∙ in-a-row-more many count limit l in
+              with-many (omega (arith, C .few)) (λ prefixes B q u v. ⊎-elim
+              (λ e. omega (arith, ap (λ (p : ℕ). length (encode D (take p text))) e, count-is prefixes B))
+              (λ w. C .many-are prefixes B q (omega arith) (omega arith))
+              (eq-or-lt-of-le u)))
+              (lt-or-ge count limit)
+            where
+              with-many : many' ≤ i + 1 → ((prefixes : List ℕ) → Built (withPrefixes P prefixes) n → ManyCodes file text limit (i + 1) many')
+                  → Counting (i + 1) many' (set codes i code) (set counts (i + 1) count)
+              with-many few are = record {
+                filling = filling-more P n text codes₀ i codes (C .filling) h code K;
+                fits = C .fits;
+                room = omega (arith, C .room, length-set counts (i + 1) count);
+                small = at-set (λ j v. v ≤ j) counts (i + 1) count (omega (arith, C .room)) (λ j l. C .small j (omega arith)) (omega (arith, before-small, before-inside));
+                few = few;
+                counts-are = λ prefixes B.
+                    at-set (λ j v. v ≡ length (encode D (take j text))) counts (i + 1) count (omega (arith, C .room))
+                    (λ j l. C .counts-are prefixes B j (omega arith)) (count-is prefixes B);
+                many-are = are;
+              }
+
+pub many-not : (P : PairTables) (n : ℕ) (text : List ℕ) (limit : ℕ) → ManyIs P n text limit false
+many-not P n text limit = record { many = λ e. absurd (true-false (sym e)) }

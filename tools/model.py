@@ -201,22 +201,19 @@ def steps(d, text):
             place -= len(d.rows[last])
             to_try = rows_at(d, text, place)
             to_try = to_try[to_try.index(last):]
-        yield list(stack), place == len(text)
+        yield list(stack)
 
 
 def backtrack(d, text):
     codes = []
-    for codes, _ in steps(d, text):
+    for codes in steps(d, text):
         pass
     return codes
 
 
-def count_till_limit(d, text, limit):
-    codes = []
-    for codes, finished in steps(d, text):
-        if not finished and len(codes) > min(limit + 10, MOD - 1):
-            return NONE
-    return NONE if len(codes) > limit else len(codes)
+def limited(count, limit):
+    """Document 02, ticket 2: "over" is given if the final count exceeds the limit, and in no other case."""
+    return NONE if count > limit else count
 
 
 def decode(d, codes):

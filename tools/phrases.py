@@ -271,6 +271,19 @@ def count(file, text):
     say(f"{in_bursts(n)}\nresult: counted{fields(n)}\n")
 
 
+def fits(file, text, given_bursts):
+    d = load(file)
+    data = text_of(text)
+    if not re.fullmatch(rb"[0-9]+", given_bursts) or int(given_bursts) > 103:
+        argument("BURSTS", given_bursts, "give a number from 0 to 103; 103 bursts hold every text")
+    limit = 40 * int(given_bursts)
+    n = model.limited(len(model.merge(d, data)), limit)
+    if n == model.NONE:
+        say(f"over: more than {many(limit, 'code')}\nresult: over limit={limit}\n")
+    else:
+        say(f"fits: {many(n, 'code')}, {limit - n} left\nresult: fits codes={n} left={limit - n}\n")
+
+
 def decode(file, name):
     d, codes = load(file), []
     text = given(name)
@@ -365,6 +378,7 @@ COMMANDS = {
     b"type": (type_text, "FILE", 1, 1),
     b"why": (why, "FILE ROW ROW", 3, 3),
     b"show": (show, "FILE TEXT OUT", 3, 3),
+    b"fits": (fits, "FILE TEXT BURSTS", 3, 3),
 }
 
 

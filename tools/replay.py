@@ -2,13 +2,18 @@
 
     python3 tools/replay.py < crates/samples/stdin > crates/samples/stdout
 """
+import functools
 import re
 import sys
-from model import (NONE, build, check_file, count_till_limit, decode, greedy, merge, record, shortest)
+from model import (NONE, build, check_file, decode, greedy, limited, merge, record, shortest)
 
 NAMES = ["places", "lefts", "rights", "prefixes", "area", "output", "work", "bytes"]
 CLEARS = (5, 6, 13)  # the refusals of build after which the tables and the area are none
 FIRST = {name: 4200 for name in NAMES} | {"area": 16400, "bytes": 66000}
+
+
+# a text is sent and counted many times
+merged = functools.lru_cache(maxsize=1)(merge)
 
 
 def unescape(text):
@@ -61,7 +66,7 @@ class Replay:
             return 7, 0, []
         if self.rows_in_form() is None:
             return 8, 0, []
-        codes = {"minimal": shortest, "greedy": greedy}.get(name, merge)(self.d, self.text)
+        codes = {"minimal": shortest, "greedy": greedy}.get(name, merged)(self.d, self.text)
         return 0, len(codes), codes
 
     def decode(self, codes):
@@ -136,7 +141,7 @@ class Replay:
             return b"count %d %d" % self.encoder("count")[:2] + rest_as_before
         elif command == "limit":
             cause, place, _ = self.encoder("count")
-            value = place if cause else count_till_limit(self.d, self.text, int(rest))
+            value = place if cause else limited(place, int(rest))
             return b"limit %d %d" % (cause, value) + rest_as_before
         elif command in ("decode", "bytes"):
             cause, place, spelled = self.decode(self.codes if command == "decode" else [int(rest)])

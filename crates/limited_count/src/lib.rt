@@ -18,6 +18,7 @@ use bitfield::all_set;
 use end_code::end_code_at;
 use pair_check::may_join;
 use placed_rows::NONE;
+use placed_rows::wide;
 use table_encoder::bytes_before;
 
 // The answer of a count with a limit.
@@ -87,6 +88,10 @@ fn have_many_codes(
         many = one_more(many, count, limit);
         if many == 64 {
             return true;
+        }
+        if 16 * wide(count) < i {
+            // So few codes seldom become as many as are wanted; it is left to the steps.
+            return false;
         }
     }
     false

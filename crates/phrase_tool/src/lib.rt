@@ -7,6 +7,7 @@
 mod bursts;
 mod command_line;
 mod decoding;
+mod fitting;
 mod pairs;
 mod sending;
 mod showing;
@@ -110,11 +111,11 @@ fn run_decode(
     }
 }
 
-// The commands over a text to send, which stands at the front of a buffer: `encode`, `count`, `shortest`, and `show`
-// with the name of the page.
+// The commands over a text to send, which stands at the front of a buffer: `encode`, `count`, `shortest`, and with one
+// argument more `show` (the name of the page) and `fits` (the number of bursts).
 fn send_buffer(
     command: &[u8],
-    out: &[u8],
+    more: &[u8],
     file: &[u8],
     places: &Table,
     lefts: &Table,
@@ -134,7 +135,11 @@ fn send_buffer(
         return;
     }
     if is(command, b"show") {
-        crate::showing::show(file, places, lefts, rights, prefixes, area, text, out);
+        crate::showing::show(file, places, lefts, rights, prefixes, area, text, more);
+        return;
+    }
+    if is(command, b"fits") {
+        crate::fitting::fits(file, places, lefts, rights, prefixes, area, text, more);
         return;
     }
     crate::sending::count(file, places, lefts, rights, prefixes, area, text);
@@ -326,6 +331,12 @@ fn run_other(command: &[u8], line: &[u8], given: usize, input: i32, each: bool) 
     }
     if is(command, b"show") {
         if takes(command, b"FILE TEXT OUT", 3, 3, given) {
+            run_loaded(command, line, input, false);
+        }
+        return true;
+    }
+    if is(command, b"fits") {
+        if takes(command, b"FILE TEXT BURSTS", 3, 3, given) {
             run_loaded(command, line, input, false);
         }
         return true;

@@ -9,6 +9,7 @@ fn say_first_commands() {
         phrases check FILE [FACTOR]    is this phrase file good, and if not, why\n  \
         phrases encode FILE TEXT       the codes of a text as they are sent\n  \
         phrases count FILE TEXT        how many codes and bursts it takes\n  \
+        phrases fits FILE TEXT BURSTS  does it fit into so many bursts\n  \
         phrases shortest FILE TEXT     the fewest codes that spell it\n  \
         phrases decode FILE TEXT       the text that codes spell\n",
     );

@@ -53,6 +53,30 @@ pub fn backtracking(most: usize) -> Vec<Vec<u8>> {
     rows
 }
 
+/// 2,561 bytes of 51 letters, of which no two neighbours stand beside each other a second time: the words of one and
+/// of two letters in the order of a dictionary, as in a sequence of de Bruijn.
+pub fn neighbours_text() -> Vec<u8> {
+    let mut text = vec![];
+    for first in b'A'..b'A' + 51 {
+        text.push(first);
+        text.extend((first + 1..b'A' + 51).flat_map(|second| [first, second]));
+    }
+    text.truncate(2561);
+    text
+}
+
+/// B, all neighbours of that text, the last ones lowest, and those from its second byte on joined on to rows of 64
+/// bytes: on the way to the text's 41 codes there are 1,280.
+pub fn neighbours() -> Vec<Vec<u8>> {
+    let text = neighbours_text();
+    let mut rows = bytes();
+    rows.extend(text.windows(2).rev().map(|pair| pair.to_vec()));
+    for size in [4, 8, 16, 32, 64] {
+        rows.extend(text[1..].chunks(size).map(|piece| piece.to_vec()));
+    }
+    rows
+}
+
 /// B, then one byte repeated 2 times, 3 times and so on.
 pub fn repeated(most: usize) -> Vec<Vec<u8>> {
     let mut rows = bytes();

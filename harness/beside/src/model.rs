@@ -283,11 +283,9 @@ impl Phrases {
     }
 }
 
-/// The count of codes, or nothing for "over", by the number of codes after each step.
-pub fn limited(running: &[usize], limit: u64) -> Option<u32> {
-    let (last, before) = running.split_last().unwrap_or((&0, &[]));
-    let over = before.iter().any(|&count| count as u64 > limit.saturating_add(10)) || *last as u64 > limit;
-    (!over).then_some(*last as u32)
+/// The count of codes, or nothing for "over".
+pub fn limited(count: usize, limit: u64) -> Option<u32> {
+    (count as u64 <= limit).then_some(count as u32)
 }
 
 /// Whether tables are in form.
@@ -351,7 +349,7 @@ mod tests {
         assert!(original::build(files::clash(), 2).is_ok());
     }
 
-    /// The samples on texts, and the limit of document 01's rule that is no fact about the text.
+    /// The samples on texts, and one at which the original's guess is wrong.
     #[test]
     fn samples_on_texts() {
         let mut e = Phrases::new(&files::with(&["bc", "ab", "cd"]));
@@ -361,8 +359,18 @@ mod tests {
         assert_eq!(e.running(b"abcd").last(), Some(&3));
         assert_eq!(Phrases::new(&files::with(&["aa"])).encode(b"aaa"), [256, 97]);
         let text = [b"a", &[b'b'; 13][..], b"c"].concat();
-        let running = Phrases::new(&files::backtracking(13)).running(&text);
-        assert_eq!((limited(&running, 2), limited(&running, 3)), (None, Some(2)));
+        let rows = files::backtracking(13);
+        let running = Phrases::new(&rows).running(&text);
+        assert_eq!((running.iter().max(), running.last()), (Some(&13), Some(&2)));
+        assert_eq!([1, 2, 3].map(|limit| limited(2, limit)), [None, Some(2), Some(2)]);
+        let rust = original::build(rows, 1).unwrap();
+        assert_eq!([1, 2, 3].map(|limit| rust.count_till_limit(&text, limit)), [None, None, Some(2)]);
+        // No constant would do: the text of neighbours that differ.
+        let (rows, text) = (files::neighbours(), files::neighbours_text());
+        assert_eq!((rows.len(), files::file_of(&rows).len()), (4056, 30344));
+        assert!(built(&rows).is_ok());
+        let running = Phrases::new(&rows).running(&text);
+        assert_eq!((running.iter().max(), running.last()), (Some(&1280), Some(&41)));
     }
 
     /// What document 01 says of the original on G.

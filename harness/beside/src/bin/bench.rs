@@ -38,13 +38,15 @@ struct Call<'a> {
     checks: usize,
     /// Whether the call is no public one, and only its core is shown.
     core: bool,
+    /// Whether the Rust's answer may be another one.
+    guess: bool,
     ours: Option<Box<dyn FnMut() -> u64 + 'a>>,
     rust: Option<Box<dyn FnMut() -> u64 + 'a>>,
 }
 
 impl<'a> Call<'a> {
     fn new(name: impl Into<String>) -> Self {
-        Call { name: name.into(), text: None, per: 1, checks: 1, core: false, ours: None, rust: None }
+        Call { name: name.into(), text: None, per: 1, checks: 1, core: false, guess: false, ours: None, rust: None }
     }
 
     fn ours(mut self, call: impl FnMut() -> u64 + 'a) -> Self {
@@ -81,6 +83,12 @@ impl<'a> Call<'a> {
         self.per = per;
         self.checks = checks;
         self
+    }
+
+    /// The Rust guesses.
+    fn guess(mut self, call: impl FnMut() -> u64 + 'a) -> Self {
+        self.guess = true;
+        self.rust(call)
     }
 
     /// No public call.
@@ -124,7 +132,7 @@ fn measure(call: &mut Call, tables: Tables, rounds: usize) -> Times {
     let mut check = || u64::from(tables.num_tokens().unwrap());
     let mut forms: [Option<&mut (dyn FnMut() -> u64 + '_)>; 3] =
         [call.ours.as_mut().map(|f| f.as_mut() as _), call.rust.as_mut().map(|f| f.as_mut() as _), Some(&mut check)];
-    if let [Some(ours), Some(rust), _] = &mut forms {
+    if let ([Some(ours), Some(rust), _], false) = (&mut forms, call.guess) {
         assert_eq!(ours(), rust(), "{}", call.name);
     }
     let counts: Vec<usize> = forms.iter_mut().map(|f| f.as_mut().map_or(0, |f| times(*f))).collect();
@@ -322,11 +330,10 @@ fn text_calls<'a>(sheet: &'a Sheet, text: &'a [u8]) -> Vec<Call<'a>> {
     };
     let limited = |name, limit: u64| {
         let mut work = vec![0; size];
-        let told = |count: Option<u32>| u64::from(count.unwrap_or(NONE));
-        on(name)
-            .ours(move || told(tables.count_till_limit(text, limit, &mut work).unwrap()))
-            .rust(move || told(rust.count_till_limit(text, limit as usize).map(|count| count as u32)))
+        on(name).ours(move || tables.count_till_limit(text, limit, &mut work).unwrap().map_or(0, u64::from))
     };
+    let guess = move |limit: usize| rust.count_till_limit(text, limit).map_or(0, |count| count as u64);
+    let within = move |limit: usize| Some(rust.count(text)).filter(|&count| count <= limit).map_or(0, |count| count as u64);
     let mut work = vec![0; size];
     let mut bytes = vec![0; size];
     let codes = rust.encode_via_backtracking(text);
@@ -350,8 +357,9 @@ fn text_calls<'a>(sheet: &'a Sheet, text: &'a [u8]) -> Vec<Call<'a>> {
         on("count")
             .ours(move || u64::from(tables.count(text, &mut work).unwrap()))
             .rust(move || rust.count(text) as u64),
-        limited("count_till_limit, no limit", u64::MAX),
-        limited("count_till_limit, 100", 100),
+        limited("count_till_limit, no limit", u64::MAX).rust(move || guess(usize::MAX)),
+        limited("count_till_limit, 100", 100).guess(move || guess(100)),
+        limited("count_till_limit, 100, and the Rust's count", 100).rust(move || within(100)),
         on("decode_tokens")
             .ours(move || u64::from(tables.decode_tokens(&codes, &mut bytes).unwrap()))
             .rust(move || rust.decode_tokens(&again).len() as u64),
@@ -359,7 +367,7 @@ fn text_calls<'a>(sheet: &'a Sheet, text: &'a [u8]) -> Vec<Call<'a>> {
     calls
 }
 
-/// The encoders on many texts in turn: the branches of one text that is encoded again and again are foreseen better
+/// The encoders and counters on many texts in turn: the branches of one text that is encoded again and again are foreseen better
 /// than those of a text that comes once.
 fn turns<'a>(sheet: &'a Sheet, texts: &'a [Vec<u8>]) -> Vec<Call<'a>> {
     let tables = sheet.tables();
@@ -373,7 +381,24 @@ fn turns<'a>(sheet: &'a Sheet, texts: &'a [Vec<u8>]) -> Vec<Call<'a>> {
             .ours(move || texts.iter().map(|text| count(text)).sum())
             .rust(move || texts.iter().map(|text| theirs(rust, text).len() as u64).sum())
     };
-    ENCODERS.into_iter().map(encoder).collect()
+    let mut calls: Vec<Call> = ENCODERS.into_iter().map(encoder).collect();
+    let on = |name: &str| Call::new(name).turns(size, texts.len());
+    let limited = |name| {
+        let mut work = vec![0; size];
+        let mut told = move |text: &[u8]| tables.count_till_limit(text, 100, &mut work).unwrap().map_or(0, u64::from);
+        on(name).ours(move || texts.iter().map(|text| told(text)).sum())
+    };
+    let mut work = vec![0; size];
+    let mut count = move |text: &[u8]| u64::from(tables.count(text, &mut work).unwrap());
+    let counted = move || texts.iter().map(|text| rust.count(text) as u64).sum();
+    let within = |text: &[u8]| Some(rust.count(text)).filter(|&count| count <= 100).map_or(0, |count| count as u64);
+    let guess = |text: &[u8]| rust.count_till_limit(text, 100).map_or(0, |count| count as u64);
+    calls.extend([
+        on("count").ours(move || texts.iter().map(|text| count(text)).sum()).rust(counted),
+        limited("count_till_limit, 100").guess(move || texts.iter().map(|text| guess(text)).sum()),
+        limited("count_till_limit, 100, and the Rust's count").rust(move || texts.iter().map(|text| within(text)).sum()),
+    ]);
+    calls
 }
 
 /// Measures the calls that are wanted.
@@ -408,14 +433,15 @@ fn checks(sheet: &Sheet, report: &mut Report) {
     }
 }
 
-/// One byte 4,096 times, and the text that backtracks most.
-fn worst() -> [Sheet; 3] {
+/// One byte 4,096 times, the text that backtracks most, and the one whose running count is furthest above its count.
+fn worst() -> [Sheet; 4] {
     let size = SIZES[2];
     let piece = [b"a", &[b'b'; 62][..], b"c"].concat();
     [
         Sheet::new("1,356 rows, grid, one digit", files::grid(), vec![b'0'; size]),
         Sheet::new("319 rows, a to a^64, a", files::repeated(64), vec![b'a'; size]),
         Sheet::new("320 rows, b^k c, a b^62 c", files::backtracking(63), piece.repeat(size / piece.len())),
+        Sheet::new("4,056 rows, neighbours", files::neighbours(), files::neighbours_text()),
     ]
 }
 

@@ -7,7 +7,7 @@ use beside::encoders::ENCODERS;
 use beside::files;
 use beside::model;
 use beside::random::Random;
-use beside::text::Language;
+use beside::text::{self, Language};
 use original::byte_pair_encoding::BytePairEncoding;
 use ours::{Refusal, AREA, NONE};
 use std::io::Write;
@@ -152,9 +152,24 @@ impl List {
         self.case("count".to_string(), 0, count as u64, KEPT);
         let random = self.random.below(count + 3);
         for limit in [count, count.saturating_sub(1), count.saturating_sub(11), random] {
-            let told = file.rust.count_till_limit(text, limit).map_or(NONE, |count| count as u32);
-            self.case(format!("limit {limit}"), 0, told.into(), KEPT);
+            self.limit(count, limit);
         }
+    }
+
+    /// Sets the text, and counts it with these limits.
+    fn limits(&mut self, file: &Accepted, text: &[u8], limits: &[usize]) {
+        self.command(format!("text {}", escaped(text)));
+        let count = file.rust.count(text);
+        self.case("count".to_string(), 0, count as u64, KEPT);
+        for &limit in limits {
+            self.limit(count, limit);
+        }
+    }
+
+    /// The original's count and the limit: its own call guesses.
+    fn limit(&mut self, count: usize, limit: usize) {
+        let told = if limit < count { NONE } else { count as u32 };
+        self.case(format!("limit {limit}"), 0, told.into(), KEPT);
     }
 
     /// Decodes codes, with so many bytes lent.
@@ -348,6 +363,15 @@ fn main() {
     {
         list.raw(&files::bytes(), more);
     }
+    // Limits: a text with many more codes on the way than at the end, and texts that are over long before they end.
+    let rows = files::neighbours();
+    let file = list.build(&rows, files::factor_for(&rows, 1)).expect("a file that is accepted");
+    list.limits(&file, &files::neighbours_text(), &[0, 1, 40, 41, 42, 100, 1269, 1270, 1280]);
+    list.limits(&file, &files::neighbours_text()[..2560], &[0, 1, 41, 100, 1279, 1280]);
+    let file = list.build(&files::grid(), 1).expect("a file that is accepted");
+    let numbers = text::digits(9, 4096);
+    list.limits(&file, &numbers, &[0, 1, 40, 100, 1000, file.rust.count(&numbers) - 1, file.rust.count(&numbers)]);
+    list.limits(&file, &[b'0'; 4096], &[0, 1, 40, 100, 1364, 1365, 1366]);
     eprintln!(
         "{} cases, {} files, {} bytes of commands, {} bytes of outcomes",
         list.cases,

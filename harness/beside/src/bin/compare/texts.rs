@@ -157,9 +157,9 @@ fn compare_encoders(
     Ok(())
 }
 
-/// Limits at which the answer turns, and the largest.
-fn limits(running: &[usize], random: &mut Random) -> Vec<u64> {
-    let count = running.last().copied().unwrap_or(0) as u64;
+/// Limits at which the answer turns, those at which the original's guess does, and the largest.
+fn limits(count: usize, running: &[usize], random: &mut Random) -> Vec<u64> {
+    let count = count as u64;
     let most = running.iter().max().copied().unwrap_or(0) as u64;
     let mut limits = vec![count, count + 1, u64::MAX, u64::MAX - 10, random.below(most as usize + 2) as u64];
     limits.extend(
@@ -187,17 +187,26 @@ fn compare_counts(
         same!(wanted.running.last().copied().unwrap_or(0), count, "the model's backtracking");
         same!(sides.rust.count(text), count, "the original's count");
     }
-    for limit in limits(&wanted.running, random) {
+    for limit in limits(count, &wanted.running, random) {
         work.renew();
         seen.call("limits", refusal);
-        let told = model::limited(&wanted.running, limit);
+        let told = model::limited(count, limit);
         let answer = sides.tables.count_till_limit(text, limit, work.part());
         same!(answer, refusal.map_or(Ok(told), Err), "count_till_limit {limit}");
         kept("count_till_limit", &work, written)?;
         if refusal.is_none() {
-            let rust = sides.rust.count_till_limit(text, limit as usize).map(|count| count as u32);
-            same!(rust, told, "the original's count_till_limit {limit}");
+            guessed(sides, text, limit, told, seen)?;
         }
+    }
+    Ok(())
+}
+
+/// The original's own answer: it may be "over" for a text that is not.
+fn guessed(sides: &Sides, text: &[u8], limit: u64, told: Option<u32>, seen: &mut Seen) -> Result<(), String> {
+    let rust = sides.rust.count_till_limit(text, limit as usize).map(|count| count as u32);
+    if rust != told {
+        same!(rust, None, "the original's count_till_limit {limit}");
+        seen.add("limits within which the original says \"over\"", 1);
     }
     Ok(())
 }

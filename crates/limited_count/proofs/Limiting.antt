@@ -54,7 +54,7 @@ module _ (T : Tables) (n : ℕ) (text entry : List ℕ) (limit : ℕ) where
           in-form = record { places-ready = q .places-ready; parts-ready = q .parts-ready; area-room = q .area-room };
           short = W .running .text-ready .short;
           inside = W .running .ready .inside;
-          reached = h;
+          reached = omega (arith, h);
         }
 
     module _ (bytes : (i : ℕ) → getD text i 0 < 256) where

@@ -89,6 +89,20 @@ fn compare_boundaries(case: &Case, seen: &mut Seen) -> Result<(), String> {
     Ok(())
 }
 
+/// The text with many more codes on the way than at the end, and its fronts.
+fn compare_neighbours(seen: &mut Seen) -> Result<(), String> {
+    let case = case(&files::neighbours(), 1, None);
+    let mut random = Random::new(case.seed);
+    let built = compare_build(&case, &mut random, seen)?;
+    let Built { file, buffer, rows, rust } = built.expect("a file that is accepted");
+    let mut sides = Sides::new(&rows, buffer.tables(&file), &rust);
+    for size in [2561, 2560, 2559, 1281, 129, 128, 65] {
+        let text = files::neighbours_text()[..size].to_vec();
+        texts::compare_shrinking(&mut sides, text, random.word(), seen)?;
+    }
+    Ok(())
+}
+
 /// The damages at one place: the byte changed, the file cut there.
 fn damages(file: &[u8], at: usize) -> Vec<Damage> {
     let old = file[at];
@@ -121,6 +135,7 @@ pub fn all() -> (usize, impl Iterator<Item = Job>) {
             compare_boundaries(&case, seen).map_err(|failure| format!("{failure}\n{}", case.shown()))
         }));
     }
+    jobs.push(Box::new(compare_neighbours));
     let mut random = Random::new(1);
     for (rows, in_turn) in small.into_iter().map(|rows| (rows, true)).chain(large.into_iter().map(|rows| (rows, false)))
     {

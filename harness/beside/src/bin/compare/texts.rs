@@ -157,11 +157,13 @@ fn compare_encoders(
     Ok(())
 }
 
-/// Limits at which the answer turns, those at which the original's guess does, and the largest.
+/// Limits at which the answer turns, those at which the original's guess does, a small one, which a long text is over
+/// long before it ends, and the largest.
 fn limits(count: usize, running: &[usize], random: &mut Random) -> Vec<u64> {
     let count = count as u64;
     let most = running.iter().max().copied().unwrap_or(0) as u64;
-    let mut limits = vec![count, count + 1, u64::MAX, u64::MAX - 10, random.below(most as usize + 2) as u64];
+    let mut limits = vec![count, count + 1, u64::MAX, u64::MAX - 10];
+    limits.extend([random.below(most as usize + 2), random.below(150)].map(|limit| limit as u64));
     limits.extend(
         [count.checked_sub(1), most.checked_sub(9), most.checked_sub(10), most.checked_sub(11)].iter().flatten(),
     );

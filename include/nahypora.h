@@ -77,7 +77,8 @@ uint64_t bpe_encode_greedy(BPE_TABLES, const uint8_t *text, size_t text_len, uin
 /* The number of codes of a text. work needs one number per byte. Causes: 9, 7, 8. */
 uint64_t bpe_count(BPE_TABLES, const uint8_t *text, size_t text_len, uint32_t *work, size_t work_len);
 
-/* The same, or BPE_NONE for "over": if the count passes the limit, or the running count passes limit + 10 before the text is done. */
+/* The same, or BPE_NONE for "over": if the number of codes exceeds the limit, and in no other case. A text far over the limit is told
+ * early. The empty text has 0 codes. */
 uint64_t bpe_count_till_limit(BPE_TABLES, const uint8_t *text, size_t text_len, uint64_t limit, uint32_t *work,
                               size_t work_len);
 

@@ -12,6 +12,7 @@ run sheet season/sheet.tsv "$out/season.phr"
 run check "$out/season.phr"
 run count "$out/season.phr" season/messages/full.txt
 run count "$out/season.phr" season/messages/over.txt
+run fits "$out/season.phr" season/messages/over.txt 1
 run encode "$out/season.phr" season/messages/short.txt
 run show "$out/season.phr" season/messages/over.txt "$out/over.html"
 echo "\$ sort by the notes column, as before the lost exercise"

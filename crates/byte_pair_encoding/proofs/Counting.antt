@@ -1,5 +1,5 @@
 -- The cases of the contracts of `count` and `count_till_limit`. Assumes nothing.
-use mathlib.Core.Path.{_≡_, refl, sym, ap, _∙_}
+use mathlib.Core.Path.{_≡_, refl, _∙_}
 use mathlib.Core.Option.{none, some}
 use mathlib.Core.List.{List}
 use Prim.Native.Nat.{ℕ}
@@ -8,10 +8,9 @@ use Rattle.causes.specs.declared.Cause.{Cause}
 use Rattle.causes.specs.Call.{toNumber}
 use Rattle.causes.proofs.Calls.{call-refused, call-given}
 use Rattle.phrase_file.specs.Form.{rows}
-use Rattle.theory.specs.CountLimit.{Limited, counted, over}
+use Rattle.theory.specs.CountLimit.{Limited, over}
 use Rattle.tables.specs.Tables.{Tables}
 use Rattle.causes.specs.declared.Answer.the-variants.{Number, Refused}
-use Rattle.tables.specs.InForm.{formOf}
 use Rattle.backtrack_encoder.specs.Encoder.{TextReady}
 use Rattle.backtrack_encoder.specs.Answers.{CountIs}
 use Rattle.limited_count.specs.declared.Limited as Limit

@@ -11,7 +11,7 @@ use Rattle.theory.specs.Backtracking.{start, run}
 use Rattle.theory.specs.CountLimit.{counted, over, final, countTillLimit}
 use Rattle.theory.proofs.CountLimit.{over-counted, final-over, final-count, counted-is}
 use Rattle.tables.specs.Tables.{Tables, withoutPrefixes}
-use Rattle.built_tables.specs.Built.{Built, dictionaryOf}
+use Rattle.built_tables.specs.Built.{dictionaryOf}
 use Rattle.backtrack_encoder.specs.declared.BacktrackEncoder.{BacktrackEncoder}
 use Rattle.backtrack_encoder.specs.Steps.{Stepped}
 use Rattle.backtrack_encoder.specs.Encoder.{TextReady}

@@ -2,14 +2,12 @@
 use mathlib.Core.Path.{_≡_, refl, sym, ap, _∙_}
 use mathlib.Core.Logic.{⊎-elim}
 use mathlib.Core.List.{List, [], _∷_}
-use mathlib.Core.Bool.{Bool, true, false}
+use mathlib.Core.Bool.{true, false}
 use Prim.Native.Nat.{ℕ, suc, _+_, _-_, _≤_, _<_}
 use native.Mathlib.Nat.{eq-or-lt-of-le}
 use native.Mathlib.Numerals.{add-one}
 use native.Mathlib.Omega.{arith}
 use lib.ListN.{length, length-append, length-set, getD, set, take}
-use lib.Seq.{getD-set-same, getD-set-other}
-use lib.Dec.{ltb}
 use borrow.Author.Tests.{lt-ltb, le-ltb}
 use Rattle.theory.specs.Dictionary.{Dictionary}
 use Rattle.theory.specs.Merge.{encode}
@@ -22,8 +20,7 @@ use Rattle.built_tables.specs.Built.{Built, dictionaryOf}
 use Rattle.built_tables.proofs.Rows.{octets, lawful-is, known}
 use Rattle.end_code.specs.Tables.{RowReady}
 use Rattle.end_code.specs.Codes.{CodeReady, CodeIs}
-use Rattle.end_code.proofs.Sizes.{row-some}
-use Rattle.table_encoder.specs.LastCodes.{PrefixesReady}
+use Rattle.end_code.proofs.Sizes.{at-set, row-some}
 use Rattle.table_encoder.proofs.Filling.{Filling, filling-start, filling-ready, filling-more}
 use Rattle.limited_count.specs.Stops.{inARow, ManyReady, ManyCodes, ManyIs}
 
@@ -35,14 +32,6 @@ module _ (many count limit : ℕ) where
   pub in-a-row-more : limit ≤ count → inARow many count limit ≡ suc many
   unfolding inARow
   in-a-row-more h = rw (le-ltb count limit h, inARow)
-
--- each entry before i, and the one that is set there
-at-set : (Q : ℕ → ℕ → Type 0) (l : List ℕ) (i v : ℕ) → i < length l → ((j : ℕ) → j < i → Q j (getD l j 0)) → Q i v
-    → (j : ℕ) → j ≤ i → Q j (getD (set l i v) j 0)
-at-set Q l i v h below here j k = ⊎-elim
-    (λ e. let y : j ≡ i = omega arith in rw (y, getD-set-same l i v 0 h) here)
-    (λ b. rw (getD-set-other l i j v 0 (λ y. omega arith)) (below j b))
-    (eq-or-lt-of-le k)
 
 module _ (P : PairTables) (n : ℕ) (text codes₀ : List ℕ) (limit : ℕ) where
   open PairTables P using (file, places)
@@ -116,6 +105,12 @@ module _ (P : PairTables) (n : ℕ) (text codes₀ : List ℕ) (limit : ℕ) whe
                 length-append (encode D (take (suc i - length (D .bytes (lastCode D (take (suc i) text)))) text)) (lastCode D (take (suc i) text) ∷ []),
               ))
 
+          -- each count up to the one that is written
+          each : (Q : ℕ → ℕ → Type 0) → ((j : ℕ) → j ≤ i → Q j (getD counts j 0)) → Q (i + 1) count
+              → (j : ℕ) → j ≤ i + 1 → Q j (getD (set counts (i + 1) count) j 0)
+          each Q below here j l =
+              at-set Q counts (i + 1) count (suc (i + 1)) (omega (arith, C .room)) refl (λ k m. below k (omega arith)) here j (omega arith)
+
           pub counting-more : (many' : ℕ) → many' ≡ inARow many count limit
               → Counting (i + 1) many' (set codes i code) (set counts (i + 1) count)
           counting-more many' m = ⊎-elim
@@ -134,11 +129,10 @@ module _ (P : PairTables) (n : ℕ) (text codes₀ : List ℕ) (limit : ℕ) whe
                 filling = filling-more P n text codes₀ i codes (C .filling) h code K;
                 fits = C .fits;
                 room = omega (arith, C .room, length-set counts (i + 1) count);
-                small = at-set (λ j v. v ≤ j) counts (i + 1) count (omega (arith, C .room)) (λ j l. C .small j (omega arith)) (omega (arith, before-small, before-inside));
+                small = each (λ j v. v ≤ j) (C .small) (omega (arith, before-small, before-inside));
                 few = few;
                 counts-are = λ prefixes B.
-                    at-set (λ j v. v ≡ length (encode D (take j text))) counts (i + 1) count (omega (arith, C .room))
-                    (λ j l. C .counts-are prefixes B j (omega arith)) (count-is prefixes B);
+                    each (λ j v. v ≡ length (encode D (take j text))) (C .counts-are prefixes B) (count-is prefixes B);
                 many-are = are;
               }
 

@@ -1,14 +1,13 @@
 -- The codes so far stay where their seam with what is left is not marked. Assumes nothing.
 use mathlib.Core.Path.{_≡_, refl, sym, ap, ap₂, _∙_}
-use mathlib.Core.Logic.{⊎-elim}
-use mathlib.Core.List.{List, [], _∷_, _++_}
-use mathlib.Core.Bool.{Bool, true, false, not, _&&_, _||_}
+use mathlib.Core.List.{List, _∷_, _++_}
+use mathlib.Core.Bool.{Bool, true, false, not, _||_}
 use Prim.Native.Nat.{ℕ, _+_, _-_, _*_, _≤_, _<_}
 use native.Mathlib.Omega.{arith}
-use lib.ListN.{length, length-append, getD, take, drop, List·getD-append, take-append-drop}
-use lib.Seq.{getD-append-add, getD-drop, take-take, length-take-le}
+use lib.ListN.{length, length-append, getD, take, drop, List·getD-append}
+use lib.Seq.{getD-append-add, take-take, length-take-le}
 use lib.Dec.{eqb, ltb}
-use borrow.Author.Tests.{ltb-true, lt-ltb, le-ltb, eqb-true, eq-eqb, ne-eqb, not-true}
+use borrow.Author.Tests.{ltb-true, lt-ltb, le-ltb, eq-eqb, ne-eqb, not-true}
 use Rattle.marks.specs.Marks.{marked}
 use Rattle.phrase_file.specs.Form.{rows}
 use Rattle.theory.specs.Dictionary.{Dictionary, spell}
@@ -27,7 +26,6 @@ use Rattle.built_tables.specs.Built.{Built, dictionaryOf}
 use Rattle.built_tables.proofs.Rows.{octets, lawful-is, known, count-is, bytes-are, pass-is}
 use Rattle.built_tables.proofs.InForm.{ready}
 use Rattle.backtrack_encoder.specs.declared.BacktrackEncoder.{BacktrackEncoder}
-use Rattle.backtrack_encoder.specs.Encoder.{EncoderReady, Shows}
 use Rattle.backtrack_encoder.proofs.Stack.{stack-length}
 use Rattle.limited_count.specs.Stops.{staysAt, ManyReady, ManyIs, SureReady, SurelyIs}
 

@@ -34,7 +34,8 @@ pub record ManyReady (P : PairTables) (n : ℕ) (text : List ℕ) : Type 0 where
 
 -- the bytes up to each of the last `many` places, the place i being the last one, have `limit` codes or more
 abbrev pub ManyCodes : List ℕ → List ℕ → ℕ → ℕ → ℕ → Type 0
-ManyCodes file text limit i many = (q : ℕ) → q ≤ i → i < q + many → limit ≤ length (encode (dictionaryOf file) (take q text))
+ManyCodes file text limit i many =
+    (q : ℕ) → q ≤ i → i < q + many → limit ≤ length (encode (dictionaryOf file) (take q text))
 
 -- 64 places
 pub record ManyAt (file text : List ℕ) (limit : ℕ) : Type 0 where

@@ -1,7 +1,7 @@
-// The count with a limit: the source's `count_till_limit`, which gives up where its running count is ten over the limit.
-// Here "over" is a fact about the text. The codes are counted by backtracking; two facts end it early, once the count
-// has reached the limit: the codes so far stay where no row has the seam of the bytes at their end; and every code list
-// has a cut among 64 places that follow each other, since no row is longer.
+// The count with a limit: the source's `count_till_limit`, whose "over" may be a guess; here it is a fact about the
+// text. The codes are counted by backtracking. Two facts end it early, once the count has reached the limit: the codes
+// so far stay where no row has the seam of the bytes at their end; and every code list has a cut among 64 places in a
+// row, since no row is longer.
 ghost use mathlib.Core.Path.{_≡_};
 ghost use Prim.Native.Nat.{_≤_, _<_};
 ghost use lib.ListN.{length};

@@ -1,20 +1,19 @@
 -- The last codes of the prefixes are written to the front of a table, one after the other. Assumes nothing.
 use mathlib.Core.Path.{_≡_, refl, sym, ap₂, _∙_}
-use mathlib.Core.Logic.{⊎-elim}
 use mathlib.Core.List.{List, _++_}
 use mathlib.Core.Bool.{true}
 use Prim.Native.Nat.{ℕ, suc, _+_, _-_, _≤_, _<_}
-use native.Mathlib.Nat.{eq-or-lt-of-le}
 use native.Mathlib.Numerals.{add-one}
 use native.Mathlib.Omega.{arith}
 use lib.ListN.{length, length-set, getD, set, take, drop, take-append-drop}
-use lib.Seq.{length-take-le, getD-take, getD-set-same, getD-set-other, drop-set-lt, drop-cons, ext-getD}
+use lib.Seq.{length-take-le, getD-take, drop-set-lt, drop-cons, ext-getD}
 use Rattle.theory.specs.Table.{lastCode, lastCodes}
 use Rattle.theory.proofs.Lists.{cons-tail}
 use Rattle.theory.proofs.Table.{length-lastCodes, getD-lastCodes, codeAt-lastCode}
 use Rattle.built_tables.specs.Built.{dictionaryOf, Built}
 use Rattle.end_code.specs.Tables.{RowsTo}
 use Rattle.end_code.specs.Codes.{CodeReady, CodeIs}
+use Rattle.end_code.proofs.Sizes.{at-set}
 use Rattle.table_encoder.specs.LastCodes.{LastCodesTo, PrefixesReady, PrefixesAre}
 use Rattle.tables.specs.Tables.{PairTables, withPrefixes}
 
@@ -71,12 +70,8 @@ module _ (P : PairTables) (n : ℕ) (text table₀ : List ℕ) where
       }
 
       module _ (r : ℕ) (C : CodeIs P true n text i table r) where
-        -- entry i, and those before it as they were
-        at-last : (Q : ℕ → ℕ → Type 0) → ((j : ℕ) → j < i → Q j (getD table j 0)) → Q i r → (j : ℕ) → j < i + 1 → Q j (getD (set table i r) j 0)
-        at-last Q below here j l = ⊎-elim
-            (λ e. let z : j ≡ i = omega arith in rw (z, getD-set-same table i r 0 (omega (arith, room))) here)
-            (λ m. rw (getD-set-other table i j r 0 (λ z. absurd (omega arith))) (below j (omega arith)))
-            (eq-or-lt-of-le l)
+        each : (Q : ℕ → ℕ → Type 0) → ((j : ℕ) → j < i → Q j (getD table j 0)) → Q i r → (j : ℕ) → j < i + 1 → Q j (getD (set table i r) j 0)
+        each Q = at-set Q table i r (i + 1) (omega (arith, room)) (add-one i)
 
         pub filling-more : Filling (i + 1) (set table i r)
         filling-more = record {
@@ -87,7 +82,7 @@ module _ (P : PairTables) (n : ℕ) (text table₀ : List ℕ) where
               rw add-one
               (drop-set-lt (suc i) table i r (omega arith)
               ∙ cons-tail (sym (drop-cons table i 0 (omega (arith, room))) ∙ F .beyond ∙ drop-cons table₀ i 0 (omega (arith, F .ready .room))));
-          rows = at-last (λ j c. c < n) (F .rows) (C .row);
-          built = λ prefixes B. at-last (λ j c. c ≡ lastCode (dictionaryOf file) (take (suc j) text)) (F .built prefixes B)
+          rows = each (λ j c. c < n) (F .rows) (C .row);
+          built = λ prefixes B. each (λ j c. c ≡ lastCode (dictionaryOf file) (take (suc j) text)) (F .built prefixes B)
               (C .built prefixes B (λ j l. F .built prefixes B j l ∙ sym (codeAt-lastCode (dictionaryOf file) text j)) ∙ codeAt-lastCode (dictionaryOf file) text i);
         }

@@ -4,7 +4,7 @@ use mathlib.Core.Logic.{⊎-elim}
 use Prim.Native.Nat.{ℕ, _≤_, _<_}
 use native.Mathlib.Omega.{arith}
 use borrow.Author.Tests.{lt-ltb, le-ltb}
-use Rattle.theory.specs.CountLimit.{Limited, counted, over, final}
+use Rattle.theory.specs.CountLimit.{counted, over, final}
 use Rattle.theory.proofs.Lists.{lt-or-ge}
 
 -- a count is not "over"

@@ -4,14 +4,14 @@ use mathlib.Core.Logic.{_↔_}
 use mathlib.Core.List.{List, [], _∷_, _++_}
 use mathlib.Core.Bool.{true, false}
 use Prim.Native.Nat.{ℕ, _+_, _-_, _*_, _≤_, _<_}
-use lib.ListN.{length, getD, take, drop}
+use lib.ListN.{length, take, drop}
 use Rattle.theory.specs.Lists.{In}
-use Rattle.theory.specs.Dictionary.{Dictionary, Octets, spell, AllRows}
+use Rattle.theory.specs.Dictionary.{Dictionary, Octets}
 use Rattle.theory.specs.Merge.{encode}
 use Rattle.theory.specs.Paper.{paperCodes}
 use Rattle.theory.specs.PairCheck.{listedBelow, walk, passes, passesJoined}
 use Rattle.theory.specs.Parts.{Accepted, dictionary, withParts, partsBelow, longestAt, prefixes, rowsUpTo, rowsAt}
-use Rattle.theory.specs.Backtracking.{State, start, run, firstFit, finished, backtrack}
+use Rattle.theory.specs.Backtracking.{start, run, firstFit, finished, backtrack}
 use Rattle.theory.specs.CountLimit.{counted, over, countTillLimit}
 use Rattle.theory.specs.Table.{lastCode, tableCodes}
 use Rattle.theory.specs.Shortest.{shortest}
@@ -29,7 +29,7 @@ use Rattle.theory.proofs.Accepted.{lawful, known-text, check-before}
 use Rattle.theory.proofs.Readings.{readings-agree}
 use Rattle.theory.proofs.Backtracking.{backtrack-is, never-empty, run-finished}
 use Rattle.theory.proofs.CountLimit.{final-over, over-only, counted-is}
-use Rattle.theory.proofs.Sides.{end-code, one-end, one-more-code}
+use Rattle.theory.proofs.Sides.{end-code, one-end}
 use Rattle.theory.proofs.Typing.{forms-true, trues-form}
 use Rattle.theory.proofs.Table.{tableCodes-encode}
 use Rattle.theory.proofs.Shortest.{shortest-rows, shortest-spells, shortest-least, shortest-ties}

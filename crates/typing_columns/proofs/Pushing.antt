@@ -14,6 +14,7 @@ use Rattle.theory.proofs.Typing.{codeAt-append, codeAt-take, countAt-append, co
 use Rattle.built_tables.specs.Built.{dictionaryOf, Built}
 use Rattle.end_code.specs.Tables.{RowsTo, PartsInForm}
 use Rattle.end_code.specs.Codes.{CodeReady}
+use Rattle.end_code.proofs.Sizes.{at-set}
 use Rattle.typing_columns.specs.Steps.{CountsTo, CodesAre, CountsAre, CountReady, CountIs, CodeIs, PushReady, Pushed, ExtendReady, ExtendedBy}
 use Rattle.tables.specs.Tables.{PairTables, withPrefixes}
 
@@ -49,13 +50,6 @@ module _ (P : PairTables) (n i : ℕ) (bytes codes counts : List ℕ) (R : PushR
     code-is = C .code;
     count-is = λ prefixes B agree small. K .is ∙ C .count prefixes B agree counts small;
   }
-
--- what holds of each entry below i and of the one set holds of each below i + 1
-at-set : (Q : ℕ → ℕ → Type 0) (l : List ℕ) (i v m : ℕ) → i < length l → m ≡ suc i → ((j : ℕ) → j < i → Q j (getD l j 0)) → Q i v → (j : ℕ) → j < m → Q j (getD (set l i v) j 0)
-at-set Q l i v m h z below here j k = ⊎-elim
-    (λ e. let y : j ≡ i = omega arith in rw (y, getD-set-same l i v 0 h) here)
-    (λ b. rw (getD-set-other l i j v 0 (λ y. omega arith)) (below j (omega arith)))
-    (eq-or-lt-of-le k)
 
 module _ (P : PairTables) (side : Side) (n len : ℕ) (bytes₀ codes₀ counts₀ typed : List ℕ) where
   open PairTables P using (file)

@@ -1,18 +1,12 @@
+-- Each turn is one of proofs/Limiting.antt. The measure is the number of steps left. Assumes nothing.
 use mathlib.Core.Logic.{inl, inr, ⊎-elim}
 use native.Mathlib.Omega.{arith}
 use Rattle.backtrack_encoder.proofs.Running.{running-start}
-use Rattle.limited_count.proofs.Limiting.{Limiting, limiting-start, limiting-sure, limiting-end, limiting-over, limiting-next}
+use Rattle.limited_count.proofs.Limiting.{Limiting, limiting-start, limiting-end, limiting-over, limiting-next}
 use Rattle.tables.specs.Tables.{tables}
 use borrow.Author.Needs.{needs}
 use Rattle.limited_count.proofs.count_till_limit_core.Statement.{statement}
 use Rattle.limited_count.proofs.count_till_limit_core.Tie as tie
-use Rattle.limited_count.proofs.count_till_limit_core.Reads as reads
-use Rattle.limited_count.proofs.count_till_limit_core.Lts as lts
-use Rattle.backtrack_encoder.proofs.start.Reads as start-reads
-use Rattle.backtrack_encoder.proofs.step.Reads as step-reads
-use Rattle.bitfield.proofs.all_set.Reads as all-set-reads
-use Rattle.limited_count.proofs.is_surely_over.Reads as is-surely-over-reads
-use Rattle.limited_count.proofs.within.Reads as within-reads
 
 abbrev Inv-loop : tie.InvT-loop
 Inv-loop file places lefts rights prefixes area n text limit work₀ alive₀ encoder₀ asked₀ left₀ work alive encoder asked left =
@@ -22,75 +16,57 @@ abbrev μ-loop : tie.MeasureT-loop
 μ-loop file places lefts rights prefixes area n text limit work₀ alive₀ encoder₀ asked₀ left₀ work alive encoder asked left =
     left
 
--- src/lib.rt:142:21
 all-set-requires : tie.Need-all-set-requires Inv-loop μ-loop
 all-set-requires c κs = search needs
 
--- src/lib.rt:143:9
 start-requires : tie.Need-start-requires Inv-loop μ-loop
 start-requires c κs = (c .before .before .before .before .before .before .before .before .before .pre .tables .places-ready, (c .before .before .before .before .before .before .before .before .before .pre .tables .area-room, c .before .before .before .before .before .before .before .before .before .pre .short))
 
--- src/lib.rt:145:20
 mul-left : tie.Need-mul-left Inv-loop μ-loop
 mul-left c = omega (arith, c .before .before .before .before .before .before .before .before .before .before .pre .short)
 
--- src/lib.rt:146:5
 loop-holds : tie.Need-loop-holds Inv-loop μ-loop
 loop-holds c = limiting-start _ _ _ _ _ _ _ (running-start _ _ _ _ _ _ (c .before .before .before .before .before .before .before .before .before .before .pre) (c .start .ensures) (c .before .all-set .ensures))
 
--- src/lib.rt:148:13
 within-requires : tie.Need-within-requires Inv-loop μ-loop
 within-requires c κs = search needs
 
--- src/lib.rt:148:13
 same-length : tie.Need-same-length Inv-loop μ-loop
 same-length c = search needs
 
--- src/lib.rt:148:13
 returns : tie.Need-returns Inv-loop μ-loop
 returns c = limiting-end _ _ _ _ _ _ _ _ _ _ (c .before .before .before .before .loop .inv) (λ i. c .before .before .before .before .before .before .before .before .shared-slice-known7 .given i .fits) _ (inr (c .before .if1 .taken)) (c .within .ensures)
 
--- src/lib.rt:151:13
 add-asked : tie.Need-add-asked Inv-loop μ-loop
 add-asked c = search needs
 
--- src/lib.rt:152:16
 is-surely-over-requires : tie.Need-is-surely-over-requires Inv-loop μ-loop
 is-surely-over-requires c κs = search needs
 
--- src/lib.rt:164:17
 same-length-2 : tie.Need-same-length-2 Inv-loop μ-loop
 same-length-2 c = search needs
 
--- src/lib.rt:164:17
 returns-2 : tie.Need-returns-2 Inv-loop μ-loop
 returns-2 c = limiting-over _ _ _ _ _ _ _ _ _ _ (c .before .before .before .before .before .before .loop .inv) (λ i. c .before .before .before .before .before .before .before .before .before .before .shared-slice-known7 .given i .fits) _ (c .before .is-surely-over .ensures) (c .if3 .taken)
 
--- src/lib.rt:167:9
 step-requires : tie.Need-step-requires Inv-loop μ-loop
 step-requires c κs = search needs
 
--- src/lib.rt:180:9
 sub-left : tie.Need-sub-left Inv-loop μ-loop
 sub-left c = search needs
 
--- src/lib.rt:146:5
 loop-less : tie.Need-loop-less Inv-loop μ-loop
 loop-less c = search needs
 
--- src/lib.rt:146:5
 loop-again : tie.Need-loop-again Inv-loop μ-loop
 loop-again c = limiting-next _ _ _ _ _ _ _ _ _ _ (c .before .before .before .before .before .before .before .before .before .loop .inv) _ _ _ _ (c .before .before .before .before .before .before .before .before .loop-test .taken) (⊎-elim (λ w. omega (arith, w .3)) (λ w. omega (arith, w .1)) (c .before .before .before .before .before .if2 .came)) (c .before .before .step .ensures)
 
--- src/lib.rt:182:5
 within-requires-2 : tie.Need-within-requires-2 Inv-loop μ-loop
 within-requires-2 c κs = search needs
 
--- src/lib.rt:126:1
 same-length-3 : tie.Need-same-length-3 Inv-loop μ-loop
 same-length-3 c = search needs
 
--- src/lib.rt:126:1
 returns-3 : tie.Need-returns-3 Inv-loop μ-loop
 returns-3 c = limiting-end _ _ _ _ _ _ _ _ _ _ (c .before .before .loop .inv) (λ i. c .before .before .before .before .before .before .shared-slice-known7 .given i .fits) _ (inl (omega (arith, c .before .loop-test .left))) (c .within2 .ensures)
 

@@ -1,3 +1,4 @@
+-- The loop's invariant: the codes up to each of the first i places are counted (proofs/Many.antt). Assumes nothing.
 use mathlib.Core.Path.{refl}
 use Prim.Native.Nat.{ℕ, _-_}
 use native.Mathlib.Omega.{arith}
@@ -7,12 +8,6 @@ use Rattle.tables.specs.Tables.{pairTables}
 use borrow.Author.Needs.{needs}
 use Rattle.limited_count.proofs.have_many_codes.Statement.{statement}
 use Rattle.limited_count.proofs.have_many_codes.Tie as tie
-use Rattle.limited_count.proofs.have_many_codes.Reads as reads
-use Rattle.limited_count.proofs.have_many_codes.Lts as lts
-use Rattle.end_code.proofs.end_code_at.Reads as end-code-at-reads
-use Rattle.limited_count.proofs.one_more.Reads as one-more-reads
-use Rattle.placed_rows.proofs.wide.Reads as wide-reads
-use Rattle.table_encoder.proofs.bytes_before.Reads as bytes-before-reads
 
 abbrev Inv-loop : tie.InvT-loop
 Inv-loop file places lefts rights area n text limit codes₀ counts₀ many₀ i₀ codes counts many i =
@@ -22,83 +17,63 @@ abbrev μ-loop : tie.MeasureT-loop
 μ-loop file places lefts rights area n text limit codes₀ counts₀ many₀ i₀ codes counts many i =
     length text - i
 
--- src/lib.rt:82:5
 loop-holds : tie.Need-loop-holds Inv-loop μ-loop
 loop-holds c = counting-start _ _ _ _ _ _ (c .before .before .before .before .before .before .pre) (omega (arith, length-replicate {A = ℕ} 512 0, c .before .before .before .before .before .before .pre .few)) (omega (arith, length-replicate {A = ℕ} 513 0, c .before .before .before .before .before .before .pre .few)) refl
 
--- src/lib.rt:83:79
 slice-aggregate-end-code-at : tie.Need-slice-aggregate-end-code-at Inv-loop μ-loop
 slice-aggregate-end-code-at c = search needs
 
--- src/lib.rt:83:13
 end-code-at-requires : tie.Need-end-code-at-requires Inv-loop μ-loop
 end-code-at-requires c κs = counting-ready _ _ _ _ _ _ _ _ _ (c .before .before .loop .inv) (c .before .loop-test .taken)
 
--- src/lib.rt:84:9
 mul-codes : tie.Need-mul-codes Inv-loop μ-loop
 mul-codes c = search needs
 
--- src/lib.rt:84:9
 array-write-codes : tie.Need-array-write-codes Inv-loop μ-loop
 array-write-codes c = search needs
 
--- src/lib.rt:85:9
 add-i : tie.Need-add-i Inv-loop μ-loop
 add-i c = search needs
 
--- src/lib.rt:86:28
 bytes-before-requires : tie.Need-bytes-before-requires Inv-loop μ-loop
 bytes-before-requires c κs = search needs
 
--- src/lib.rt:86:21
 mul-count : tie.Need-mul-count Inv-loop μ-loop
 mul-count c = search needs
 
--- src/lib.rt:86:21
 array-read-count : tie.Need-array-read-count Inv-loop μ-loop
 array-read-count c = search needs
 
--- src/lib.rt:86:21
 add-count : tie.Need-add-count Inv-loop μ-loop
 add-count c = omega (arith, c .before .before .before .before .loop .inv .fits, before-inside _ _ _ _ _ _ _ _ _ (c .before .before .before .before .loop .inv) (c .before .before .before .loop-test .taken) _ (c .before .end-code-at .ensures) _ (c .bytes-before .ensures), before-small _ _ _ _ _ _ _ _ _ (c .before .before .before .before .loop .inv) (c .before .before .before .loop-test .taken) _ (c .before .end-code-at .ensures) _ (c .bytes-before .ensures))
 
--- src/lib.rt:87:9
 mul-counts : tie.Need-mul-counts Inv-loop μ-loop
 mul-counts c = search needs
 
--- src/lib.rt:87:9
 array-write-counts : tie.Need-array-write-counts Inv-loop μ-loop
 array-write-counts c = search needs
 
--- src/lib.rt:88:9
 one-more-requires : tie.Need-one-more-requires Inv-loop μ-loop
 one-more-requires c κs = search needs
 
--- src/lib.rt:90:13
 returns : tie.Need-returns Inv-loop μ-loop
 returns c = counting-many _ _ _ _ _ _ _ _ _ (counting-more _ _ _ _ _ _ _ _ _ (c .before .before .before .before .before .before .loop .inv) (c .before .before .before .before .before .loop-test .taken) _ (c .before .before .before .end-code-at .ensures) _ (c .before .before .bytes-before .ensures) (λ i. c .before .before .before .before .before .before .before .shared-slice-known6 .given i .fits) _ refl _ (c .before .one-more .ensures)) (c .if1 .taken)
 
--- src/lib.rt:92:17
 wide-requires : tie.Need-wide-requires Inv-loop μ-loop
 wide-requires c κs = search needs
 
--- src/lib.rt:92:12
 mul-if2 : tie.Need-mul-if2 Inv-loop μ-loop
 mul-if2 c = search needs
 
--- src/lib.rt:94:13
 returns-2 : tie.Need-returns-2 Inv-loop μ-loop
 returns-2 c = many-not _ _ _ _
 
--- src/lib.rt:82:5
 loop-less : tie.Need-loop-less Inv-loop μ-loop
 loop-less c = search needs
 
--- src/lib.rt:82:5
 loop-again : tie.Need-loop-again Inv-loop μ-loop
 loop-again c = counting-more _ _ _ _ _ _ _ _ _ (c .before .before .before .before .before .before .before .before .loop .inv) (c .before .before .before .before .before .before .before .loop-test .taken) _ (c .before .before .before .before .before .end-code-at .ensures) _ (c .before .before .before .before .bytes-before .ensures) (λ i. c .before .before .before .before .before .before .before .before .before .shared-slice-known6 .given i .fits) _ refl _ (c .before .before .before .one-more .ensures)
 
--- src/lib.rt:65:1
 returns-3 : tie.Need-returns-3 Inv-loop μ-loop
 returns-3 c = many-not _ _ _ _
 

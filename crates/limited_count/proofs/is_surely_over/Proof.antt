@@ -1,3 +1,4 @@
+-- By the two facts of proofs/Staying.antt. Assumes nothing.
 use Rattle.limited_count.proofs.Staying.{sure-stays, many-ready, sure-many, surely-not}
 use mathlib.Core.Path.{sym}
 use lib.Seq.{length-take-le}
@@ -5,44 +6,31 @@ use native.Mathlib.Omega.{arith}
 use borrow.Author.Needs.{needs}
 use Rattle.limited_count.proofs.is_surely_over.Statement.{statement}
 use Rattle.limited_count.proofs.is_surely_over.Tie as tie
-use Rattle.limited_count.proofs.is_surely_over.Reads as reads
-use Rattle.limited_count.proofs.is_surely_over.Lts as lts
-use Rattle.limited_count.proofs.codes_stay.Reads as codes-stay-reads
-use Rattle.limited_count.proofs.have_many_codes.Reads as have-many-codes-reads
 
--- src/lib.rt:112:8
 codes-stay-requires : tie.Need-codes-stay-requires
 codes-stay-requires c κs = search needs
 
--- src/lib.rt:113:9
 returns : tie.Need-returns
 returns c = sure-stays _ _ _ _ _ (c .before .before .before .before .before .before .before .before .pre) (λ i. c .before .before .shared-slice-known6 .given i .fits) _ (c .before .codes-stay .ensures) (c .if1 .taken)
 
--- src/lib.rt:116:9
 returns-2 : tie.Need-returns-2
 returns-2 c = surely-not _ _ _ _ _
 
--- src/lib.rt:118:15
 add-end : tie.Need-add-end
 add-end c = search needs
 
--- src/lib.rt:119:21
 mul-if3 : tie.Need-mul-if3
 mul-if3 c = search needs
 
--- src/lib.rt:120:9
 returns-3 : tie.Need-returns-3
 returns-3 c = surely-not _ _ _ _ _
 
--- src/lib.rt:122:59
 slice-aggregate-have-many-codes : tie.Need-slice-aggregate-have-many-codes
 slice-aggregate-have-many-codes c = sym (length-take-le _ _ (omega (arith, c .before .if3 .left)))
 
--- src/lib.rt:122:5
 have-many-codes-requires : tie.Need-have-many-codes-requires
 have-many-codes-requires c κs = many-ready _ _ _ _ _ (c .before .before .before .before .before .before .before .before .before .before .before .before .pre) (λ i. c .before .before .before .before .before .before .shared-slice-known6 .given i .fits) (c .before .if3 .left)
 
--- src/lib.rt:97:1
 returns-4 : tie.Need-returns-4
 returns-4 c = sure-many _ _ _ _ _ (c .before .before .before .before .before .before .before .before .before .before .before .before .before .pre) (λ i. c .before .before .before .before .before .before .before .shared-slice-known6 .given i .fits) _ (c .before .before .if3 .left) (c .have-many-codes .ensures)
 

@@ -1,21 +1,17 @@
+-- By the two cases of `inARow`. Assumes nothing.
 use native.Mathlib.Numerals.{add-one}
 use Rattle.limited_count.proofs.Many.{in-a-row-none, in-a-row-more}
-use mathlib.Core.Path.{sym, _∙_}
+use mathlib.Core.Path.{sym}
 use borrow.Author.Needs.{needs}
 use Rattle.limited_count.proofs.one_more.Statement.{statement}
 use Rattle.limited_count.proofs.one_more.Tie as tie
-use Rattle.limited_count.proofs.one_more.Reads as reads
-use Rattle.limited_count.proofs.one_more.Lts as lts
 
--- src/lib.rt:59:44
 add-result : tie.Need-add-result
 add-result c = search needs
 
--- src/lib.rt:55:1
 returns : tie.Need-returns
 returns c = sym (in-a-row-none _ _ _ (c .if1 .taken))
 
--- src/lib.rt:55:1
 returns-2 : tie.Need-returns-2
 returns-2 c = rw add-one (sym (in-a-row-more _ _ _ (c .if1 .left)))
 

@@ -333,7 +333,7 @@ fn text_calls<'a>(sheet: &'a Sheet, text: &'a [u8]) -> Vec<Call<'a>> {
         on(name).ours(move || tables.count_till_limit(text, limit, &mut work).unwrap().map_or(0, u64::from))
     };
     let guess = move |limit: usize| rust.count_till_limit(text, limit).map_or(0, |count| count as u64);
-    let within = move |limit: usize| Some(rust.count(text)).filter(|&count| count <= limit).map_or(0, |count| count as u64);
+    let within = move |limit: usize| u64::from(model::limited(rust.count(text), limit as u64).unwrap_or(0));
     let mut work = vec![0; size];
     let mut bytes = vec![0; size];
     let codes = rust.encode_via_backtracking(text);
@@ -391,7 +391,7 @@ fn turns<'a>(sheet: &'a Sheet, texts: &'a [Vec<u8>]) -> Vec<Call<'a>> {
     let mut work = vec![0; size];
     let mut count = move |text: &[u8]| u64::from(tables.count(text, &mut work).unwrap());
     let counted = move || texts.iter().map(|text| rust.count(text) as u64).sum();
-    let within = |text: &[u8]| Some(rust.count(text)).filter(|&count| count <= 100).map_or(0, |count| count as u64);
+    let within = |text: &[u8]| u64::from(model::limited(rust.count(text), 100).unwrap_or(0));
     let guess = |text: &[u8]| rust.count_till_limit(text, 100).map_or(0, |count| count as u64);
     calls.extend([
         on("count").ours(move || texts.iter().map(|text| count(text)).sum()).rust(counted),

@@ -3,9 +3,11 @@
 // the merge procedure joins them; no text is searched for rows. `FirstJoin` of `theory` is the definition. The side is
 // a bool here and an enum in `typing_columns`: one enum for both would move proofs of both for no promise.
 ghost use mathlib.Core.Path.{_≡_};
-ghost use Prim.Native.Nat.{_<_};
+ghost use Prim.Native.Nat.{_-_, _<_};
 ghost use lib.ListN.{length};
 ghost use Rattle.theory.proofs.Spine.{orElse};
+ghost use Rattle.built_tables.specs.Built.{dictionaryOf};
+ghost use Rattle.end_code.specs.Tables.{RowReady};
 ghost use Rattle.end_code.specs.Joins.{boundOf, partOf, PartReady, BesideReady, BesideIs, FirstReady, FirstIs};
 ghost use Rattle.end_code.specs.Codes.{ByteReady, ByteIs, CodeReady, CodeIs};
 ghost use Rattle.tables.specs.Tables.{pairGiven, pairLent, before};
@@ -160,4 +162,24 @@ pub fn end_code_at(
         at -= len;
     }
     code
+}
+
+// The number of bytes of a row.
+fn token_len(file: &[u8], places: &[u32], n: usize, code: u32) -> usize
+    requires { ⌜ RowReady (now file) (now places) n code ⌝ }
+    ensures { λ r. ⌜ r ≡ length (dictionaryOf (now (file .entry)) .bytes code) ⌝ }
+{
+    placed_rows::length_of(file, places, n, wide(code))
+}
+
+// The bytes before row `code` where it ends the first `pos` bytes; none where the row is longer.
+pub fn bytes_before(file: &[u8], places: &[u32], n: usize, pos: usize, code: u32) -> usize
+    requires { ⌜ RowReady (now file) (now places) n code ⌝ }
+    ensures { λ r. ⌜ r ≡ pos - length (dictionaryOf (now (file .entry)) .bytes code) ⌝ }
+{
+    let len = token_len(file, places, n, code);
+    if pos < len {
+        return 0;
+    }
+    pos - len
 }

@@ -1,3 +1,4 @@
 pub mod Staying
 pub mod Many
+pub mod Ahead
 pub mod Limiting

@@ -7,20 +7,22 @@ use Prim.Native.Nat.{ℕ, _+_, _-_, _*_, _≤_, _<_}
 use native.Mathlib.Omega.{arith}
 use lib.ListN.{length, getD}
 use Rattle.theory.specs.Dictionary.{none}
+use Rattle.theory.specs.Merge.{encode}
 use Rattle.theory.specs.Backtracking.{start, run}
 use Rattle.theory.specs.CountLimit.{counted, over, final, countTillLimit}
 use Rattle.theory.proofs.CountLimit.{over-counted, final-over, final-count, counted-is}
 use Rattle.tables.specs.Tables.{Tables, withoutPrefixes}
-use Rattle.built_tables.specs.Built.{dictionaryOf}
+use Rattle.built_tables.specs.Built.{Built, dictionaryOf}
 use Rattle.backtrack_encoder.specs.declared.BacktrackEncoder.{BacktrackEncoder}
 use Rattle.backtrack_encoder.specs.Steps.{Stepped}
 use Rattle.backtrack_encoder.specs.Encoder.{TextReady}
 use Rattle.backtrack_encoder.proofs.Stepping.{on-the-way}
-use Rattle.backtrack_encoder.proofs.Running.{done, Running, running-step, running-end, codes-count}
+use Rattle.backtrack_encoder.proofs.Running.{done, Running, running-step, running-few, running-end, codes-count}
 use Rattle.limited_count.specs.declared.Limited.{Limited}
 use Rattle.limited_count.specs.declared.Limited.the-variants.{Over}
 use Rattle.limited_count.specs.Answers.{limitedOf, LimitedIs}
-use Rattle.limited_count.specs.Stops.{SureReady, SurelyIs}
+use Rattle.limited_count.specs.Stops.{StaysIf, AheadReady, OverIs}
+use Rattle.limited_count.proofs.Staying.{stays-over}
 
 -- the answer for a final count
 pub within-over : (limit n : ℕ) → limit < n → over ≡ final limit n
@@ -47,15 +49,29 @@ module _ (T : Tables) (n : ℕ) (text entry : List ℕ) (limit : ℕ) where
         let q = W .running .text-ready in
         record { tables = q .tables; short = q .short; room = omega (arith, q .room, W .running .kept) }
 
-    pub limiting-sure : limit ≤ e .count → SureReady (withoutPrefixes T) n text e limit
-    limiting-sure h =
+    pub limiting-ahead : limit ≤ e .count → AheadReady (withoutPrefixes T) n text e limit
+    limiting-ahead h =
         let q = W .running .text-ready .tables in
         record {
           in-form = record { places-ready = q .places-ready; parts-ready = q .parts-ready; area-room = q .area-room };
           short = W .running .text-ready .short;
           inside = W .running .ready .inside;
-          reached = omega (arith, h);
+          few = running-few T n text entry left e work alive (W .running);
+          reached = h;
         }
+
+    -- "over" is a fact
+    told-over : (Built T n → limit < length (encode (dictionaryOf file) text)) → LimitedIs T n text limit entry Over work
+    unfolding countTillLimit
+    told-over f = record {
+      few = λ k c. absurd (over-counted k c);
+      work-length = W .running .kept;
+      work-beyond = W .running .beyond;
+      built = λ B. sym (final-over limit _ (f B));
+    }
+
+    pub limiting-over : (r : Bool) → OverIs (withoutPrefixes T) n text limit r → r ≡ true → LimitedIs T n text limit entry Over work
+    limiting-over r S y = told-over (λ B. S .over y (T .prefixes) B)
 
     module _ (bytes : (i : ℕ) → getD text i 0 < 256) where
       -- the answer for the final count
@@ -71,18 +87,15 @@ module _ (T : Tables) (n : ℕ) (text entry : List ℕ) (limit : ℕ) where
             built = λ B. f ∙ ap (final limit) (codes-count T n text entry (e .count) work entry-ready K B);
           }
 
-      -- "over" is a fact
-      pub limiting-over : (r : Bool) → SurelyIs (withoutPrefixes T) n text e limit r → r ≡ true → LimitedIs T n text limit entry Over work
-      unfolding countTillLimit
-      limiting-over r S y = record {
-        few = λ k c. absurd (over-counted k c);
-        work-length = W .running .kept;
-        work-beyond = W .running .beyond;
-        built = λ B.
-            let s = run (dictionaryOf file) text (done T n text entry left) (start (dictionaryOf file) text) in
-            sym (final-over limit _ (S .over y (T .prefixes) B work alive s (on-the-way T n text B bytes (done T n text entry left))
-            (W .running .ready) (W .running .shows B)));
-      }
+      -- the codes so far stay
+      pub limiting-stays : (r : Bool) → limit ≤ e .count → StaysIf (T .area) text (e .pos) r → r ≡ true → LimitedIs T n text limit entry Over work
+      limiting-stays r h f y = told-over (λ B.
+          let k = done T n text entry left in
+          omega (
+            arith,
+            stays-over T n B text bytes e work alive (run (dictionaryOf file) text k (start (dictionaryOf file) text))
+                (on-the-way T n text B bytes k) (W .running .ready) (W .running .shows B) (f .stays y),
+          ))
 
     -- or not: a step more, asked or not asked before it
     pub limiting-next : (asked' : ℕ) (r : BacktrackEncoder) (work' alive' : List ℕ) → 0 < left → asked' ≤ asked + 1

@@ -2,14 +2,13 @@
 use mathlib.Core.Path.{_≡_, refl, sym, ap, ap₂, _∙_}
 use mathlib.Core.List.{List, _∷_, _++_}
 use mathlib.Core.Bool.{Bool, true, false, not, _||_}
-use Prim.Native.Nat.{ℕ, _+_, _-_, _*_, _≤_, _<_}
+use Prim.Native.Nat.{ℕ, _+_, _-_, _≤_, _<_}
 use native.Mathlib.Omega.{arith}
-use lib.ListN.{length, length-append, getD, take, drop, List·getD-append}
-use lib.Seq.{getD-append-add, take-take, length-take-le}
+use lib.ListN.{length, length-append, getD, drop, List·getD-append}
+use lib.Seq.{getD-append-add}
 use lib.Dec.{eqb, ltb}
 use borrow.Author.Tests.{ltb-true, lt-ltb, le-ltb, eq-eqb, ne-eqb, not-true}
 use Rattle.marks.specs.Marks.{marked}
-use Rattle.phrase_file.specs.Form.{rows}
 use Rattle.theory.specs.Dictionary.{Dictionary, spell}
 use Rattle.theory.specs.Merge.{encode}
 use Rattle.theory.specs.PairCheck.{passes}
@@ -18,16 +17,17 @@ use Rattle.theory.proofs.Lists.{true-false, and-both}
 use Rattle.theory.proofs.RowsAt.{filled}
 use Rattle.theory.proofs.Neighbours.{spell-snoc}
 use Rattle.theory.proofs.Backtracking.{Going, place-is}
-use Rattle.theory.proofs.Over.{codes-stay, all-of-last}
-use Rattle.tables.specs.Tables.{Tables, PairTables, withPrefixes}
+use Rattle.theory.proofs.Over.{codes-stay}
+use Rattle.tables.specs.Tables.{Tables}
 use Rattle.pair_check.specs.Pair.{seamKey, firstByte, lastByte, PairReady}
 use Rattle.pair_check.proofs.Seams.{pass-unmarked}
 use Rattle.built_tables.specs.Built.{Built, dictionaryOf}
 use Rattle.built_tables.proofs.Rows.{octets, lawful-is, known, count-is, bytes-are, pass-is}
 use Rattle.built_tables.proofs.InForm.{ready}
 use Rattle.backtrack_encoder.specs.declared.BacktrackEncoder.{BacktrackEncoder}
+use Rattle.backtrack_encoder.specs.Encoder.{EncoderReady, Shows}
 use Rattle.backtrack_encoder.proofs.Stack.{stack-length}
-use Rattle.limited_count.specs.Stops.{staysAt, ManyReady, ManyIs, SureReady, SurelyIs}
+use Rattle.limited_count.specs.Stops.{staysAt, StaysIf}
 
 -- the cases of the test
 module _ (area text : List ℕ) (pos : ℕ) where
@@ -45,6 +45,12 @@ module _ (area text : List ℕ) (pos : ℕ) where
   pub stays-seam : (b : Bool) → pos < length text → (pos ≡ 0 → ⊥) → b ≡ seamMarked → not b ≡ staysAt area text pos
   unfolding staysAt
   stays-seam b h z e = rw e (sym (rw (lt-ltb pos (length text) h, ne-eqb pos 0 z, staysAt)))
+
+  pub stays-not : StaysIf area text pos false
+  stays-not = record { stays = λ y. absurd (true-false (sym y)) }
+
+  pub stays-asked : (r : Bool) → r ≡ staysAt area text pos → StaysIf area text pos r
+  stays-asked r e = record { stays = λ y. sym e ∙ y }
 
   stays-left : staysAt area text pos ≡ true → pos < length text
   unfolding staysAt
@@ -119,40 +125,13 @@ module _ (T : Tables) (n : ℕ) (B : Built T n) (text : List ℕ) where
       let some : 0 < pos = omega (arith, size, length-append a (D .bytes u), filled D (lawful-is T n B) u) in
       unmarked-pass a u v r hu hv' whole (rw size (stays-unmarked area text pos stays some))
 
-module _ (P : PairTables) (n : ℕ) (text : List ℕ) (e : BacktrackEncoder) (limit : ℕ) (R : SureReady P n text e limit)
-    (bytes : (i : ℕ) → getD text i 0 < 256) where
-  open PairTables P using (file, area)
-
-  -- the codes so far stay, and text is left
-  pub sure-stays : (r : Bool) → r ≡ staysAt area text (e .pos) → r ≡ true → SurelyIs P n text e limit true
-  sure-stays r f y = record {
-    over = λ _ prefixes B work alive s g E v.
-        let T = withPrefixes P prefixes in
-        let L = lawful-is T n B in
-        let at : e .pos ≡ place (dictionaryOf file) (s .stack) = E .reached ∙ ap (place (dictionaryOf file)) (sym (v .stack)) in
-        let size : length (s .stack) ≡ e .count = ap length (v .stack) ∙ stack-length work (e .count) in
-        let stays : staysAt area text (e .pos) ≡ true = sym f ∙ y in
-        let more = codes-stay (dictionaryOf file) L text (known T n B text (octets text bytes)) s g (omega (arith, at, stays-left area text (e .pos) stays))
-        (stay-passes T n B text s g (e .pos) at stays) in
-        omega (arith, more, size, R .reached);
-  }
-
-  -- or the bytes up to each of 64 places in a row have the limit's codes
-  pub many-ready : 8 * (e .pos + 64) ≤ length text → ManyReady P n (take (e .pos + 64) text)
-  many-ready h = record { in-form = R .in-form; few = omega (arith, R .short, length-take-le (e .pos + 64) text (omega arith)) }
-
-  pub sure-many : (r : Bool) → 8 * (e .pos + 64) ≤ length text → ManyIs P n (take (e .pos + 64) text) limit r → SurelyIs P n text e limit r
-  sure-many r h M = record {
-    over = λ y prefixes B work alive s g E v.
-        let T = withPrefixes P prefixes in
-        let m = M .many y prefixes B in
-        let end : ℕ = e .pos + 64 in
-        let size = length-take-le end text (omega arith) in
-        all-of-last (dictionaryOf file) (lawful-is T n B) text (known T n B text (octets text bytes)) 64 (m .at) limit
-        (λ c l. let c' : c < n = omega (arith, count-is T n B) in omega (arith, ap length (bytes-are T n B c c'), ready T n B .places-ready .short c c'))
-        (omega (arith, m .inside, size))
-        (λ q l l'. let i = m .inside in omega (arith, m .codes q l l', ap (λ (t : List ℕ). length (encode (dictionaryOf file) t)) (take-take q end text (omega arith))));
-  }
-
-pub surely-not : (P : PairTables) (n : ℕ) (text : List ℕ) (e : BacktrackEncoder) (limit : ℕ) → SurelyIs P n text e limit false
-surely-not P n text e limit = record { over = λ y. absurd (true-false (sym y)) }
+  -- so the codes of a state stay, and there are more
+  pub stays-over : ((i : ℕ) → getD text i 0 < 256) → (e : BacktrackEncoder) (work alive : List ℕ) (s : State) → Going D text s
+      → EncoderReady file n text e work → Shows D text e work alive s → staysAt area text (e .pos) ≡ true
+      → e .count < length (encode D text)
+  stays-over bytes e work alive s g E v stays =
+      let at : e .pos ≡ place D (s .stack) = E .reached ∙ ap (place D) (sym (v .stack)) in
+      let size : length (s .stack) ≡ e .count = ap length (v .stack) ∙ stack-length work (e .count) in
+      let more = codes-stay D (lawful-is T n B) text (known T n B text (octets text bytes)) s g
+      (omega (arith, at, stays-left area text (e .pos) stays)) (stay-passes s g (e .pos) at stays) in
+      omega (arith, more, size)

@@ -8,13 +8,10 @@ use lib.Dec.{eqb, ltb}
 use Rattle.marks.specs.Layout.{seams}
 use Rattle.marks.specs.Marks.{marked}
 use Rattle.theory.specs.Merge.{encode}
-use Rattle.theory.specs.Backtracking.{State}
-use Rattle.theory.proofs.Backtracking.{Going}
 use Rattle.tables.specs.Tables.{PairTables, withPrefixes}
 use Rattle.pair_check.specs.Pair.{seamKey}
 use Rattle.built_tables.specs.Built.{Built, dictionaryOf}
 use Rattle.backtrack_encoder.specs.declared.BacktrackEncoder.{BacktrackEncoder}
-use Rattle.backtrack_encoder.specs.Encoder.{EncoderReady, Shows}
 use Rattle.end_code.specs.Tables.{PartsInForm}
 
 -- text is left at the place, and it is the text's front or its seam is not marked
@@ -22,6 +19,10 @@ unfoldable pub staysAt : List ℕ → List ℕ → ℕ → Bool
 staysAt area text pos =
     ltb pos (length text)
     && (eqb pos 0 || not (marked area seams (seamKey (getD text (pos - 1) 0) (getD text pos 0))))
+
+-- "yes" only if it is so
+pub record StaysIf (area text : List ℕ) (pos : ℕ) (r : Bool) : Type 0 where
+  pub stays : r ≡ true → staysAt area text pos ≡ true
 
 -- how many places in a row have `limit` codes or more, where the next one has `count`
 unfoldable pub inARow : ℕ → ℕ → ℕ → ℕ
@@ -47,17 +48,15 @@ pub record ManyAt (file text : List ℕ) (limit : ℕ) : Type 0 where
 pub record ManyIs (P : PairTables) (n : ℕ) (text : List ℕ) (limit : ℕ) (r : Bool) : Type 0 where
   pub many : r ≡ true → (prefixes : List ℕ) → Built (withPrefixes P prefixes) n → ManyAt (P .file) text limit
 
--- what an encoder that has reached the limit needs
-pub record SureReady (P : PairTables) (n : ℕ) (text : List ℕ) (e : BacktrackEncoder) (limit : ℕ) : Type 0 where
+-- what looking ahead of an encoder that has reached the limit needs
+pub record AheadReady (P : PairTables) (n : ℕ) (text : List ℕ) (e : BacktrackEncoder) (limit : ℕ) : Type 0 where
   pub in-form : PartsInForm P n
   pub short : length text ≤ 4096
   pub inside : e .pos ≤ length text
+  pub few : e .count ≤ length text
   pub reached : limit ≤ e .count
 
--- "yes" only if the text has more than `limit` codes, the encoder showing a state on the way
-pub record SurelyIs (P : PairTables) (n : ℕ) (text : List ℕ) (e : BacktrackEncoder) (limit : ℕ)
-    (r : Bool) : Type 0 where
+-- "yes" only if the text has more than `limit` codes
+pub record OverIs (P : PairTables) (n : ℕ) (text : List ℕ) (limit : ℕ) (r : Bool) : Type 0 where
   pub over : r ≡ true → (prefixes : List ℕ) → Built (withPrefixes P prefixes) n
-      → (work alive : List ℕ) (s : State) → Going (dictionaryOf (P .file)) text s
-      → EncoderReady (P .file) n text e work → Shows (dictionaryOf (P .file)) text e work alive s
       → limit < length (encode (dictionaryOf (P .file)) text)

@@ -10,16 +10,16 @@ ghost use Rattle.theory.specs.CountLimit.{final};
 ghost use Rattle.tables.specs.Tables.{given, lent, pairGiven, pairLent, before, after};
 ghost use Rattle.backtrack_encoder.specs.Encoder.{TextReady};
 ghost use Rattle.limited_count.specs.Answers.{limitedOf, LimitedIs};
-ghost use Rattle.limited_count.specs.Stops.{staysAt, inARow, ManyReady, ManyIs, SureReady, SurelyIs};
+ghost use Rattle.limited_count.specs.Stops.{staysAt, StaysIf, inARow, ManyReady, ManyIs, AheadReady};
+ghost use Rattle.limited_count.specs.Stops.{OverIs};
 use backtrack_encoder::BacktrackEncoder;
 use backtrack_encoder::start;
 use backtrack_encoder::step;
 use bitfield::all_set;
+use end_code::bytes_before;
 use end_code::end_code_at;
 use pair_check::may_join;
 use placed_rows::NONE;
-use placed_rows::wide;
-use table_encoder::bytes_before;
 
 // The answer of a count with a limit.
 pub enum Limited {
@@ -50,6 +50,20 @@ fn codes_stay(area: &[u32], text: &[u8], pos: usize) -> bool
         return true;
     }
     !may_join(area, text[pos - 1], text[pos])
+}
+
+// The same where it was asked so often before: after 64 times in vain it is asked only every eighth time, so that a
+// text without such a place costs no more than its steps.
+fn stay_now(area: &[u32], text: &[u8], pos: usize, asked: usize) -> bool
+    requires { ⌜ areaSize ≤ length (now area) ⌝ }
+    ensures { λ r. ⌜ StaysIf (before area) (before text) pos r ⌝ }
+{
+    if 64 < asked {
+        if asked % 8 != 0 {
+            return false;
+        }
+    }
+    codes_stay(area, text, pos)
 }
 
 // How many places in a row have `limit` codes or more, with one place more.
@@ -89,17 +103,14 @@ fn have_many_codes(
         if many == 64 {
             return true;
         }
-        if 16 * wide(count) < i {
-            // So few codes seldom become as many as are wanted; it is left to the steps.
-            return false;
-        }
     }
     false
 }
 
-// Whether "over" is a fact at an encoder that has reached the limit. The places ahead cost more than a step: they are
-// looked at once, where the seams said nothing 64 times, and if that is early in the text.
-fn is_surely_over(
+// Whether the places up to 64 behind an encoder's show that the text is over. It is asked where the seams said nothing
+// 64 times. A place costs as much as a step or more, so the places are looked at only if many of the last 64 steps took
+// a code back, and if they are no more than an eighth of the text.
+fn is_over_ahead(
     file: &[u8],
     places: &[u32],
     lefts: &[u32],
@@ -108,16 +119,12 @@ fn is_surely_over(
     n: usize,
     text: &[u8],
     encoder: BacktrackEncoder,
-    asked: usize,
     limit: u64,
 ) -> bool
-    requires { ⌜ SureReady (pairGiven file places lefts rights area) n (now text) encoder limit ⌝ }
-    ensures { λ r. ⌜ SurelyIs (pairLent file places lefts rights area) n (before text) encoder limit r ⌝ }
+    requires { ⌜ AheadReady (pairGiven file places lefts rights area) n (now text) encoder limit ⌝ }
+    ensures { λ r. ⌜ OverIs (pairLent file places lefts rights area) n (before text) limit r ⌝ }
 {
-    if codes_stay(area, text, encoder.pos) {
-        return true;
-    }
-    if asked != 64 {
+    if limit + 40 < encoder.count as u64 {
         return false;
     }
     let end = encoder.pos + 64;
@@ -146,27 +153,21 @@ pub fn count_till_limit_core(
 {
     let mut alive = all_set();
     let mut encoder = start(file, places, area, n, text);
-    let mut asked = 0;
+    let mut asked = 0usize;
     let mut left = 2 * text.len();
     while left > 0 {
         if encoder.next == NONE {
             return within(encoder.count, limit);
         }
         if limit <= encoder.count as u64 {
-            asked += 1;
-            if is_surely_over(
-                file,
-                places,
-                lefts,
-                rights,
-                area,
-                n,
-                text,
-                encoder,
-                asked,
-                limit,
-            ) {
+            if stay_now(area, text, encoder.pos, asked) {
                 return Limited::Over;
+            }
+            asked += 1;
+            if asked == 64 {
+                if is_over_ahead(file, places, lefts, rights, area, n, text, encoder, limit) {
+                    return Limited::Over;
+                }
             }
         }
         encoder = step(

@@ -26,13 +26,17 @@ fn room(limit: u64, count: u64) -> u64 {
 }
 
 // The codes fit.
-fn say_fits(limit: u64, count: usize) {
-    let left = room(limit, count as u64);
+fn say_fits(count: usize, left: u64) {
     say(b"fits: ");
     say_many(count, b"code");
     say(b", ");
     say_number(left);
-    say(b" left\nresult: fits codes=");
+    say(b" left\n");
+}
+
+// The same for a script.
+fn say_fields(count: usize, left: u64) {
+    say(b"result: fits codes=");
     say_number(count as u64);
     say(b" left=");
     say_number(left);
@@ -51,7 +55,11 @@ fn say_over(limit: u64) {
 // The answer of a count with a limit.
 fn say_limited(answer: LimitAnswer, limit: u64, file: &[u8]) {
     match answer {
-        LimitAnswer::Counted(count) => say_fits(limit, count),
+        LimitAnswer::Counted(count) => {
+            let left = room(limit, count as u64);
+            say_fits(count, left);
+            say_fields(count, left);
+        }
         LimitAnswer::Over => say_over(limit),
         LimitAnswer::Refused(cause) => {
             say_refusal(cause, file, 1);

@@ -2,21 +2,10 @@
 // they are written, since document 01 wants output beyond the answer unchanged.
 ghost use mathlib.Core.Path.{_≡_};
 ghost use mathlib.Core.List.{_++_};
-ghost use Prim.Native.Nat.{_-_};
 ghost use lib.ListN.{length, drop};
-ghost use Rattle.built_tables.specs.Built.{dictionaryOf};
-ghost use Rattle.end_code.specs.Tables.{RowReady};
 ghost use Rattle.table_encoder.specs.LastCodes.{PrefixesReady, PrefixesAre};
 ghost use Rattle.table_encoder.specs.Walk.{walked, WalkReady, WriteReady, TableReady, TableCodes};
 ghost use Rattle.tables.specs.Tables.{pairGiven, pairLent, before, after};
-
-// The number of bytes of a row.
-fn token_len(file: &[u8], places: &[u32], n: usize, code: u32) -> usize
-    requires { ⌜ RowReady (now file) (now places) n code ⌝ }
-    ensures { λ r. ⌜ r ≡ length (dictionaryOf (now (file .entry)) .bytes code) ⌝ }
-{
-    placed_rows::length_of(file, places, n, placed_rows::wide(code))
-}
 
 // The last code of each prefix of the text, at the front of the table.
 pub fn encode_all_prefixes(
@@ -52,18 +41,6 @@ pub fn encode_all_prefixes(
     }
 }
 
-// The bytes before row `code` where it ends the first `pos` bytes; none where the row is longer.
-pub fn bytes_before(file: &[u8], places: &[u32], n: usize, pos: usize, code: u32) -> usize
-    requires { ⌜ RowReady (now file) (now places) n code ⌝ }
-    ensures { λ r. ⌜ r ≡ pos - length (dictionaryOf (now (file .entry)) .bytes code) ⌝ }
-{
-    let len = token_len(file, places, n, code);
-    if pos < len {
-        return 0;
-    }
-    pos - len
-}
-
 // The number of codes of the first m bytes, walked from the end.
 fn count_back(file: &[u8], places: &[u32], n: usize, table: &[u32], m: usize) -> usize
     requires { ⌜ WalkReady (now file) (now places) n (now table) m ⌝ }
@@ -72,7 +49,7 @@ fn count_back(file: &[u8], places: &[u32], n: usize, table: &[u32], m: usize) ->
     let mut count = 0;
     let mut pos = m;
     while 0 < pos {
-        pos = bytes_before(file, places, n, pos, table[pos - 1]);
+        pos = end_code::bytes_before(file, places, n, pos, table[pos - 1]);
         count += 1;
     }
     count
@@ -98,7 +75,7 @@ fn write_back(
         let code = table[pos - 1];
         at -= 1;
         out[at] = code;
-        pos = bytes_before(file, places, n, pos, code);
+        pos = end_code::bytes_before(file, places, n, pos, code);
     }
 }
 

@@ -11,20 +11,20 @@ use Rattle.limited_count.proofs.have_many_codes.Tie as tie
 
 abbrev Inv-loop : tie.InvT-loop
 Inv-loop file places lefts rights area n text limit codes₀ counts₀ many₀ i₀ codes counts many i =
-    Counting (pairTables file places lefts rights area) n text codes₀ limit i many codes counts
+    Counting (pairTables file places lefts rights area) n text limit i many codes counts
 
 abbrev μ-loop : tie.MeasureT-loop
 μ-loop file places lefts rights area n text limit codes₀ counts₀ many₀ i₀ codes counts many i =
     length text - i
 
 loop-holds : tie.Need-loop-holds Inv-loop μ-loop
-loop-holds c = counting-start _ _ _ _ _ _ (c .before .before .before .before .before .before .pre) (omega (arith, length-replicate {A = ℕ} 512 0, c .before .before .before .before .before .before .pre .few)) (omega (arith, length-replicate {A = ℕ} 513 0, c .before .before .before .before .before .before .pre .few)) refl
+loop-holds c = counting-start _ _ _ _ _ _ (c .before .before .before .before .before .before .pre) (length-replicate {A = ℕ} 512 0) (omega (arith, length-replicate {A = ℕ} 513 0, c .before .before .before .before .before .before .pre .few)) refl
 
 slice-aggregate-end-code-at : tie.Need-slice-aggregate-end-code-at Inv-loop μ-loop
 slice-aggregate-end-code-at c = search needs
 
 end-code-at-requires : tie.Need-end-code-at-requires Inv-loop μ-loop
-end-code-at-requires c κs = counting-ready _ _ _ _ _ _ _ _ _ (c .before .before .loop .inv) (c .before .loop-test .taken)
+end-code-at-requires c κs = counting-ready _ _ _ _ _ _ _ _ (c .before .before .loop .inv) (c .before .loop-test .taken)
 
 mul-codes : tie.Need-mul-codes Inv-loop μ-loop
 mul-codes c = search needs
@@ -45,7 +45,7 @@ array-read-count : tie.Need-array-read-count Inv-loop μ-loop
 array-read-count c = search needs
 
 add-count : tie.Need-add-count Inv-loop μ-loop
-add-count c = omega (arith, c .before .before .before .before .loop .inv .fits, before-inside _ _ _ _ _ _ _ _ _ (c .before .before .before .before .loop .inv) (c .before .before .before .loop-test .taken) _ (c .before .end-code-at .ensures) _ (c .bytes-before .ensures), before-small _ _ _ _ _ _ _ _ _ (c .before .before .before .before .loop .inv) (c .before .before .before .loop-test .taken) _ (c .before .end-code-at .ensures) _ (c .bytes-before .ensures))
+add-count c = omega (arith, c .before .before .before .before .loop .inv .fits, before-inside _ _ _ _ _ _ _ _ (c .before .before .before .before .loop .inv) (c .before .before .before .loop-test .taken) _ (c .before .end-code-at .ensures) _ (c .bytes-before .ensures), before-small _ _ _ _ _ _ _ _ (c .before .before .before .before .loop .inv) (c .before .before .before .loop-test .taken) _ (c .before .end-code-at .ensures) _ (c .bytes-before .ensures))
 
 mul-counts : tie.Need-mul-counts Inv-loop μ-loop
 mul-counts c = search needs
@@ -57,25 +57,16 @@ one-more-requires : tie.Need-one-more-requires Inv-loop μ-loop
 one-more-requires c κs = search needs
 
 returns : tie.Need-returns Inv-loop μ-loop
-returns c = counting-many _ _ _ _ _ _ _ _ _ (counting-more _ _ _ _ _ _ _ _ _ (c .before .before .before .before .before .before .loop .inv) (c .before .before .before .before .before .loop-test .taken) _ (c .before .before .before .end-code-at .ensures) _ (c .before .before .bytes-before .ensures) (λ i. c .before .before .before .before .before .before .before .shared-slice-known6 .given i .fits) _ refl _ (c .before .one-more .ensures)) (c .if1 .taken)
-
-wide-requires : tie.Need-wide-requires Inv-loop μ-loop
-wide-requires c κs = search needs
-
-mul-if2 : tie.Need-mul-if2 Inv-loop μ-loop
-mul-if2 c = search needs
-
-returns-2 : tie.Need-returns-2 Inv-loop μ-loop
-returns-2 c = many-not _ _ _ _
+returns c = counting-many _ _ _ _ _ _ _ _ (counting-more _ _ _ _ _ _ _ _ (c .before .before .before .before .before .before .loop .inv) (c .before .before .before .before .before .loop-test .taken) _ (c .before .before .before .end-code-at .ensures) _ (c .before .before .bytes-before .ensures) (λ i. c .before .before .before .before .before .before .before .shared-slice-known6 .given i .fits) _ refl _ (c .before .one-more .ensures)) (c .if1 .taken)
 
 loop-less : tie.Need-loop-less Inv-loop μ-loop
 loop-less c = search needs
 
 loop-again : tie.Need-loop-again Inv-loop μ-loop
-loop-again c = counting-more _ _ _ _ _ _ _ _ _ (c .before .before .before .before .before .before .before .before .loop .inv) (c .before .before .before .before .before .before .before .loop-test .taken) _ (c .before .before .before .before .before .end-code-at .ensures) _ (c .before .before .before .before .bytes-before .ensures) (λ i. c .before .before .before .before .before .before .before .before .before .shared-slice-known6 .given i .fits) _ refl _ (c .before .before .before .one-more .ensures)
+loop-again c = counting-more _ _ _ _ _ _ _ _ (c .before .before .before .before .before .before .loop .inv) (c .before .before .before .before .before .loop-test .taken) _ (c .before .before .before .end-code-at .ensures) _ (c .before .before .bytes-before .ensures) (λ i. c .before .before .before .before .before .before .before .shared-slice-known6 .given i .fits) _ refl _ (c .before .one-more .ensures)
 
-returns-3 : tie.Need-returns-3 Inv-loop μ-loop
-returns-3 c = many-not _ _ _ _
+returns-2 : tie.Need-returns-2 Inv-loop μ-loop
+returns-2 c = many-not _ _ _ _
 
 pub have-many-codes-spec : {M : Type 1} → statement M
 have-many-codes-spec =
@@ -97,9 +88,6 @@ have-many-codes-spec =
     array-write-counts
     one-more-requires
     returns
-    wide-requires
-    mul-if2
-    returns-2
     loop-less
     loop-again
-    returns-3)
+    returns-2)

@@ -4,6 +4,7 @@
 use aneubeck_daachorse::{DoubleArrayAhoCorasick, DoubleArrayAhoCorasickBuilder, MatchKind};
 use beside::encoders::{Encoder, ENCODERS};
 use beside::files;
+use beside::model;
 use beside::random::Random;
 use beside::text::{digits, Language};
 use original::byte_pair_encoding::BytePairEncoding;

@@ -1,8 +1,8 @@
 -- The length read is that of the dictionary's row. Assumes nothing.
 use borrow.Author.Needs.{needs}
 use Rattle.end_code.proofs.Sizes.{read-size}
-use Rattle.table_encoder.proofs.token_len.Statement.{statement}
-use Rattle.table_encoder.proofs.token_len.Tie as tie
+use Rattle.end_code.proofs.token_len.Statement.{statement}
+use Rattle.end_code.proofs.token_len.Tie as tie
 
 wide-requires : tie.Need-wide-requires
 wide-requires c κs = search needs

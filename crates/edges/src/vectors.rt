@@ -1,8 +1,9 @@
-// Hashes of rows, and every cut of a published text. Each line has a name, the value in hex, and `ok` where that is
-// the value written here.
+// Hashes of rows, and every cut of a published text and of the octets of two rows. Each line has a name, the value in
+// hex, and `ok` where that is the value written here.
 use fnv::OFFSET;
 use fnv::fnv1a;
 use fnv::hash_bytes;
+use fnv::row_value;
 ghost use mathlib.Core.Path.{_≡_};
 ghost use Prim.Native.Nat.{_≤_};
 ghost use lib.ListN.{length};
@@ -54,32 +55,54 @@ fn rows() {
     );
 }
 
-// The value of the text in two parts: of its first k bytes, then going on from there over the rest.
-fn in_two_parts(text: &[u8], k: usize) -> u64
-    requires { ⌜ k ≤ length (now text) ⌝ }
-    ensures { λ r. ⌜ r ≡ fnv fnvOffset (now (text .entry)) ⌝ }
+// The value of the octets in two parts: of the first k of them, then going on from there over the rest.
+fn in_two_parts(octets: &[u8], k: usize) -> u64
+    requires { ⌜ k ≤ length (now octets) ⌝ }
+    ensures { λ r. ⌜ r ≡ fnv fnvOffset (now (octets .entry)) ⌝ }
 {
-    let first = fnv1a(OFFSET, &text[..k]);
-    fnv1a(first, &text[k..])
+    let first = fnv1a(OFFSET, &octets[..k]);
+    fnv1a(first, &octets[k..])
 }
 
-fn cut(text: &[u8], k: usize, value: u64, published: u64) {
-    quote(text);
+fn cut(name: &[u8], k: usize, value: u64, expected: u64) {
+    io::write_all(1, name);
     io::write_all(1, b" cut at ");
     io::print_decimal(1, k as u64);
-    compare(value, 16, published);
+    compare(value, 16, expected);
 }
 
-// Every cut of the text.
-fn cuts(text: &[u8], published: u64) {
+// Every cut of the octets.
+fn cuts(name: &[u8], octets: &[u8], expected: u64) {
     let mut k = 0;
-    while k <= text.len() {
-        cut(text, k, in_two_parts(text, k), published);
+    while k <= octets.len() {
+        cut(name, k, in_two_parts(octets, k), expected);
         k += 1;
     }
 }
 
+// A row's value before the factor, and every cut of the octets that it is of.
+fn row_cuts(name: &[u8], bytes: &[u8], octets: &[u8], expected: u64) {
+    io::write_all(1, name);
+    io::write_all(1, b" before the factor");
+    compare(row_value(bytes), 16, expected);
+    cuts(name, octets, expected);
+}
+
+// The value of "foobar" is published. Those of the rows were computed as those of `rows`, before the last line; the
+// octets are written out, the length low first.
 pub(crate) fn work_through() {
     rows();
-    cuts(b"foobar", 0x8594_4171_f739_67e8);
+    cuts(b"\"foobar\"", b"foobar", 0x8594_4171_f739_67e8);
+    row_cuts(
+        b"row \"ab\"",
+        b"ab",
+        b"\x02\0\0\0\0\0\0\0ab",
+        0x9c60_01d3_28a9_4690,
+    );
+    row_cuts(
+        b"row of 64 bytes",
+        b"0123456789abcdef0123456789abcdef0123456789abcdef0123456789abcdef",
+        b"\x40\0\0\0\0\0\0\00123456789abcdef0123456789abcdef0123456789abcdef0123456789abcdef",
+        0x4188_3489_e5e6_6325,
+    );
 }

@@ -1,5 +1,6 @@
--- FNV-1a at 64 bits and the hash of a row: document 01, "Building", "Hash of a row".
+-- FNV-1a at 64 bits and the hash of a row: document 01, "Building", "Hash of a row"; document 02, ticket 4.
 use Prim.Native.Nat.{ℕ, zero, suc, _*_, _/_, _%_, _^_}
+use mathlib.Core.Path.{_≡_}
 use mathlib.Core.List.{List, [], _∷_, _++_}
 use lib.ListN.{length}
 use lib.Bits.{bitXor}
@@ -33,3 +34,10 @@ rowOctets bytes = octets 8 (length bytes) ++ bytes
 -- "Hash of a row": FNV-1a of these octets; "multiplied by the factor modulo 2^64; the upper 32 bits count"
 unfoldable pub rowHash : List ℕ → ℕ → ℕ
 rowHash bytes factor = fnv fnvOffset (rowOctets bytes) * factor % 2 ^ 64 / 2 ^ 32
+
+-- "the whole's value before the factor" (02), r: FNV-1a of the octets of a row
+pub record RowValue (bytes : List ℕ) (r : ℕ) : Type 0 where
+  pub value : r ≡ fnv fnvOffset (rowOctets bytes)
+  -- "for every cut of those octets, going on from the first part's value over the second gives" it
+  pub going-on : (first second : List ℕ) → first ++ second ≡ rowOctets bytes
+      → fnv (fnv fnvOffset first) second ≡ r

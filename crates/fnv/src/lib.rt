@@ -3,7 +3,7 @@ mod wrapping;
 
 pub use wrapping::wrapping_mul_u64;
 ghost use mathlib.Core.Path.{_≡_};
-ghost use Rattle.fnv.specs.Fnv.{fnvStep, fnv, octets, rowHash};
+ghost use Rattle.fnv.specs.Fnv.{fnvStep, fnv, octets, rowHash, RowValue};
 
 // FNV's offset basis: the value that the hash starts from.
 pub const OFFSET: u64 = 0xcbf2_9ce4_8422_2325;
@@ -14,7 +14,8 @@ const PRIME: u64 = 0x100_0000_01b3;
 fn step(hash: u64, octet: u8) -> u64
     ensures { λ r. ⌜ r ≡ fnvStep hash octet ⌝ }
 {
-    wrapping_mul_u64(hash ^ octet as u64, PRIME)
+    let hash = hash ^ octet as u64;
+    wrapping_mul_u64(hash, PRIME)
 }
 
 // FNV-1a over the bytes, going on from the value `start`.
@@ -53,11 +54,19 @@ fn to_le_bytes(n: u64) -> [u8; 8]
     ]
 }
 
-// The hash of a row's bytes: the length, then the bytes; times the factor; the upper 32 bits.
+// The value of a row before the factor: FNV-1a over the eight octets of the length, low first, then the bytes.
+pub fn row_value(bytes: &[u8]) -> u64
+    ensures { λ r. ⌜ RowValue (now (bytes .entry)) r ⌝ }
+{
+    let length = to_le_bytes(bytes.len() as u64);
+    let hash = fnv1a(OFFSET, &length);
+    fnv1a(hash, bytes)
+}
+
+// The hash of a row's bytes: the value, times the factor; the upper 32 bits.
 pub fn hash_bytes(bytes: &[u8], factor: u64) -> u32
     ensures { λ r. ⌜ r ≡ rowHash (now (bytes .entry)) factor ⌝ }
 {
-    let length = to_le_bytes(bytes.len() as u64);
-    let hash = fnv1a(fnv1a(OFFSET, &length), bytes);
-    (wrapping_mul_u64(hash, factor) / 0x1_0000_0000) as u32
+    let value = row_value(bytes);
+    (wrapping_mul_u64(value, factor) / 0x1_0000_0000) as u32
 }

@@ -397,4 +397,14 @@ mod tests {
         assert_eq!(hash(b"foobar", 1), (fnv(row) >> 32) as u32);
         assert_eq!(hash(b"foobar", 1), original::byte_pair_encoding::probe_hash(b"foobar", 1));
     }
+
+    /// What the original multiplies by the factor, in halves: with 1 the upper one is left, with 2^32 the lower one. Of
+    /// the rows that `edges` cuts.
+    #[test]
+    fn row_value() {
+        let half = |row: &[u8], factor| u64::from(original::byte_pair_encoding::probe_hash(row, factor));
+        let value = |row: &[u8]| half(row, 1) << 32 | half(row, 1 << 32);
+        assert_eq!(value(b"ab"), 0x9c6001d328a94690);
+        assert_eq!(value(&b"0123456789abcdef".repeat(4)), 0x41883489e5e66325);
+    }
 }

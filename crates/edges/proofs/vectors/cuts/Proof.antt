@@ -1,4 +1,4 @@
--- `fnv_vectors::cuts` meets its contract: each cut is at most the text's length. Assumes nothing.
+-- `edges::cuts` meets its contract: each cut is at most the number of octets. Assumes nothing.
 use borrow.Author.Needs.{needs}
 use Prim.Native.Nat.{_≤_, _+_, _-_}
 use lib.ListN.{length}
@@ -6,10 +6,10 @@ use Rattle.edges.proofs.vectors.cuts.Statement.{statement}
 use Rattle.edges.proofs.vectors.cuts.Tie as tie
 
 abbrev Inv-loop : tie.InvT-loop
-Inv-loop text published k₀ k = k ≤ length text + 1
+Inv-loop name octets expected k₀ k = k ≤ length octets + 1
 
 abbrev μ-loop : tie.MeasureT-loop
-μ-loop text published k₀ k = length text + 1 - k
+μ-loop name octets expected k₀ k = length octets + 1 - k
 
 loop-holds : tie.Need-loop-holds Inv-loop μ-loop
 loop-holds c = search needs

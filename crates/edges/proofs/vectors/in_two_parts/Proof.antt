@@ -1,4 +1,4 @@
--- `fnv_vectors::in_two_parts` meets its contract by the law `fnv-cut`: the two parts make up the text. Assumes nothing.
+-- `edges::in_two_parts` meets its contract by the law `fnv-cut`: the two parts make up the octets. Assumes nothing.
 use borrow.Author.Needs.{needs}
 use mathlib.Core.Path.{_≡_, sym}
 use mathlib.Core.List.{List}

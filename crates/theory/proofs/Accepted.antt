@@ -1,22 +1,22 @@
 -- Accepted rows make a lawful dictionary: their parts are those that build finds.
 use mathlib.Core.Path.{◌≡◌, refl, sym, ap, ap₂, ◌∙◌}
-use mathlib.Core.Logic.{◌⊎◌, inl, inr, ⊎_elim}
+use mathlib.Core.Logic.{inl, inr, ⊎_elim}
 use mathlib.Core.List.{List, [], ◌∷◌, ◌++◌}
 use mathlib.Core.Bool.{Bool, true, false}
 use mathlib.Core.Option.{Option, none, some}
 use Prim.Native.Nat.{ℕ, zero, suc, ◌+◌, ◌-◌, ◌≤◌, ◌<◌}
 use native.Mathlib.Nat.{eq-or-lt_of_le}
 use native.Mathlib.Omega.{arith}
-use lib.ListN.{length, length-append, get_or, take, drop, get_or-append, get_or-eq_default}
+use lib.ListN.{length, length-append, get_or, drop, get_or-append, get_or-eq_default}
 use lib.Seq.{get_or-append-add, drop_at}
 use lib.Dec.{ltb}
 use borrow.Author.Tests.{ltb-true, lt-ltb, le-ltb}
 use Rattle.theory.specs.Lists.{equal, In}
-use Rattle.theory.specs.Dictionary.{Dictionary, Octets, KnownText}
-use Rattle.theory.specs.Merge.{byte_codes, row_of}
+use Rattle.theory.specs.Dictionary.{Octets, KnownText}
+use Rattle.theory.specs.Merge.{byte_codes}
 use Rattle.theory.specs.PairCheck.{listed_below, walk, passes}
 use Rattle.theory.specs.Parts.{Parts, part_or, find, code_of, bytes_of, with_parts, rest_of, are_parts_of, first_parts, parts_of, parts_below, prefixes, dictionary, Accepted}
-use Rattle.theory.proofs.Lists.{true-false, nil-cons, bool_cases, lt_or_ge, and_both, equal_eq, equal_refl}
+use Rattle.theory.proofs.Lists.{true-false, nil-cons, lt_or_ge, and_both, equal_eq, equal_refl}
 use Rattle.theory.proofs.Merge.{row_below-is}
 use Rattle.theory.proofs.Stage.{Laws}
 use Rattle.theory.proofs.PairCheck.{Lawful}

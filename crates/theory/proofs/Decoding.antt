@@ -5,9 +5,7 @@ use Prim.Native.Nat.{ℕ, ◌≤◌}
 use native.Mathlib.Omega.{arith}
 use lib.ListN.{length, length-append}
 use Rattle.theory.specs.Dictionary.{Dictionary, spell, KnownText}
-use Rattle.theory.specs.Merge.{encode}
 use Rattle.theory.specs.Paper.{paper_codes}
-use Rattle.theory.specs.Shortest.{shortest, greedy}
 use Rattle.theory.specs.Demands.{Decoded}
 use Rattle.theory.proofs.Stage as St
 use Rattle.theory.proofs.PairCheck.{Lawful}

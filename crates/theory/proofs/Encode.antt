@@ -1,14 +1,13 @@
 -- What the encoders rest on, in terms of the merge procedure: its codes spell the text, a part of them is the codes of what it spells,
 -- and one more code at the end or at the front.
-use mathlib.Core.Path.{◌≡◌, refl, sym, ap, ◌∙◌}
-use mathlib.Core.Logic.{◌⊎◌, inl, inr, ⊎_elim}
+use mathlib.Core.Path.{◌≡◌, sym, ap, ◌∙◌}
+use mathlib.Core.Logic.{◌⊎◌, inl, inr}
 use mathlib.Core.List.{List, [], ◌∷◌, ◌++◌}
 use mathlib.Core.Bool.{true}
 use Prim.Native.Nat.{ℕ, ◌<◌}
 use Rattle.theory.specs.Lists.{first_or, last_or}
 use Rattle.theory.specs.Dictionary.{Dictionary, spell, AllRows, KnownText}
 use Rattle.theory.specs.Merge.{encode}
-use Rattle.theory.specs.Paper.{stage}
 use Rattle.theory.specs.PairCheck.{passes, AllPass}
 use Rattle.theory.proofs.Lists.{nil-cons}
 use Rattle.theory.proofs.Stage as St

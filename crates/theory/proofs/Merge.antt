@@ -1,14 +1,14 @@
 -- The merge procedure by single joins, lowest row first and leftmost, and that it is the paper's procedure on an accepted file.
-use mathlib.Core.Path.{◌≡◌, refl, sym, ap, ap₂, subst, ◌∙◌}
-use mathlib.Core.Logic.{◌⊎◌, inl, inr, ⊎_elim}
+use mathlib.Core.Path.{◌≡◌, refl, sym, ap, ap₂, ◌∙◌}
+use mathlib.Core.Logic.{⊎_elim}
 use mathlib.Core.List.{List, [], ◌∷◌, ◌++◌, append-nil, append_assoc}
-use mathlib.Core.Bool.{Bool, true, false, ◌&&◌}
-use Prim.Native.Nat.{ℕ, zero, suc, ◌+◌, ◌≤◌, ◌<◌, min}
+use mathlib.Core.Bool.{Bool, true, false}
+use Prim.Native.Nat.{ℕ, zero, suc, ◌≤◌, ◌<◌, min}
 use native.Mathlib.Nat.{eq-or-lt_of_le}
 use native.Mathlib.Omega.{arith}
 use lib.ListN.{length, length-append}
-use lib.Dec.{eqb, eqb_refl, eqb→eq, ltb, ltb→lt, lt→ltb, T, not_T}
-use Rattle.theory.proofs.Lists.{cons_head, cons_tail, nil-cons, true-false, last_or_append, lt_or_ge, bool_cases, snoc_view, two_snoc, equal_eq, equal_refl, eqb_eq, eqb_ne, ltb_lt, ltb_ge, of_T, to-T}
+use lib.Dec.{T}
+use Rattle.theory.proofs.Lists.{cons_head, cons_tail, nil-cons, true-false, last_or_append, lt_or_ge, snoc_view, two_snoc, equal_eq, equal_refl, eqb_eq, eqb_ne, ltb_lt, ltb_ge}
 use Rattle.theory.specs.Lists.{last_or, equal}
 use Rattle.theory.specs.Paper.{pass, listed, stage}
 use Rattle.theory.proofs.Pass.{seam, meet, pass-hit, pass_miss}

@@ -1,21 +1,17 @@
 -- What the encoders rest on: one more code at the end, one more at the front, the parts of a row are the only ones, and a check sees only lower rows.
-use mathlib.Core.Path.{◌≡◌, refl, sym, ap, ap₂, ◌∙◌}
-use mathlib.Core.Logic.{◌⊎◌, inl, inr, ⊎_elim}
-use mathlib.Core.List.{List, [], ◌∷◌, ◌++◌, append-nil, append_assoc}
-use mathlib.Core.Bool.{Bool, true, false, ◌&&◌, ◌||◌}
-use Prim.Native.Nat.{ℕ, zero, suc, ◌+◌, ◌≤◌, ◌<◌}
+use mathlib.Core.Path.{◌≡◌, refl, sym, ap, ◌∙◌}
+use mathlib.Core.List.{List, [], ◌∷◌, ◌++◌, append-nil}
+use mathlib.Core.Bool.{Bool, true, false}
+use Prim.Native.Nat.{ℕ, zero, suc, ◌≤◌, ◌<◌}
 use native.Mathlib.Omega.{arith}
-use lib.ListN.{length, length-append}
-use lib.Dec.{ltb}
-use Rattle.theory.proofs.Lists.{cons_head, cons_tail, nil-cons, true-false, last_or_append, lt_or_ge, bool_cases}
+use Rattle.theory.proofs.Lists.{cons_head, cons_tail}
 use Rattle.theory.specs.Lists.{last_or}
 use Rattle.theory.specs.Dictionary.{Dictionary, spell}
 use Rattle.theory.proofs.Stage.{Laws, listed-is, StayApart, AllApart}
-use Rattle.theory.specs.Paper.{listed, stage}
-use Rattle.theory.specs.Merge.{byte_codes}
+use Rattle.theory.specs.Paper.{stage}
 use Rattle.theory.proofs.Stage as St
-use Rattle.theory.proofs.PairCheck.{Lawful, turned, Turned, Under, passes↔pair-below, itself, halves}
-use Rattle.theory.specs.PairCheck.{Turn, stop, undo_left, undo_right, listed_below, turn, turn_by, walk, passes}
+use Rattle.theory.proofs.PairCheck.{Lawful, turned, Turned, passes↔pair-below, halves}
+use Rattle.theory.specs.PairCheck.{Turn, stop, undo_left, undo_right, listed_below, turn, walk, passes}
 
 module _ (D : Dictionary) where
   abbrev pub Follows : ℕ → List ℕ → ℕ → Type 0

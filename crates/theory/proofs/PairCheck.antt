@@ -1,20 +1,19 @@
 -- The pair check, and that it decides whether two codes are their own encoding.
 use mathlib.Core.Path.{◌≡◌, refl, sym, ap, ◌∙◌}
 use mathlib.Core.Logic.{◌⊎◌, inl, inr, ⊎_elim, ◌↔◌}
-use mathlib.Core.List.{List, [], ◌∷◌, ◌++◌, append-nil, append_assoc}
-use mathlib.Core.Bool.{Bool, true, false, ◌&&◌, ◌||◌}
+use mathlib.Core.List.{List, [], ◌∷◌, ◌++◌, append-nil}
+use mathlib.Core.Bool.{Bool, true, false, ◌||◌}
 use Prim.Native.Nat.{ℕ, zero, suc, ◌+◌, ◌≤◌, ◌<◌}
-use native.Mathlib.Decide.{dec_le, le_ind}
-use native.Mathlib.Nat.{le_refl, eq-or-lt_of_le}
+use native.Mathlib.Decide.{le_ind}
+use native.Mathlib.Nat.{eq-or-lt_of_le}
 use native.Mathlib.Omega.{arith}
 use lib.Dec.{eqb, eqb_refl, ltb, ltb→lt, nltb→le, T, not_T}
-use Rattle.theory.proofs.Lists.{cons_head, cons_tail, nil-cons, true-false, last_or_append, lt_or_ge, bool_cases}
+use Rattle.theory.proofs.Lists.{true-false, last_or_append, lt_or_ge}
 use Rattle.theory.specs.Lists.{last_or}
 use Rattle.theory.specs.Paper.{pass, listed, stage}
 use Rattle.theory.proofs.Pass.{seam, meet, pass-hit, pass_miss}
 use Rattle.theory.specs.Dictionary.{Dictionary, spell}
 use Rattle.theory.proofs.Stage.{Laws, Listed, listed-is, T_of, StayApart, AllApart}
-use Rattle.theory.specs.Merge.{byte_codes}
 use Rattle.theory.proofs.Stage as St
 use Rattle.theory.specs.Dictionary.{AllRows, KnownText}
 use Rattle.theory.specs.PairCheck.{Turn, stop, undo_left, undo_right, turn_by, turn, listed_below, walk, passes, AllPass}

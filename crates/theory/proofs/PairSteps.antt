@@ -1,16 +1,15 @@
 -- The pair check turn by turn: what a loop over it needs. Fuel beyond u + v does not matter, so that each turn is an equation.
-use mathlib.Core.Path.{◌≡◌, refl, sym, ap, ◌∙◌}
-use mathlib.Core.Logic.{◌⊎◌, inl, inr, ⊎_elim}
+use mathlib.Core.Path.{◌≡◌, refl}
+use mathlib.Core.Logic.{⊎_elim}
 use mathlib.Core.Bool.{Bool, true, false}
 use Prim.Native.Nat.{ℕ, zero, suc, ◌+◌, ◌≤◌, ◌<◌}
 use native.Mathlib.Nat.{eq-or-lt_of_le}
 use native.Mathlib.Omega.{arith}
 use borrow.Author.Tests.{lt-ltb, le-ltb}
-use lib.Dec.{ltb}
 use Rattle.theory.specs.Dictionary.{Dictionary}
 use Rattle.theory.specs.Paper.{listed}
 use Rattle.theory.specs.PairCheck.{Turn, stop, undo_left, undo_right, turn, listed_below, walk}
-use Rattle.theory.proofs.Lists.{true-false, bool_cases}
+use Rattle.theory.proofs.Lists.{bool_cases}
 use Rattle.theory.proofs.PairCheck.{Turned, turned, listed_below-some}
 
 -- parts are lower rows, below q

@@ -1,19 +1,18 @@
 -- One left-to-right pass, over any test of two neighbours.
 use mathlib.Core.Path.{◌≡◌, refl, sym, ap, ◌∙◌}
-use mathlib.Core.List.{List, [], ◌∷◌, ◌++◌, append-nil}
+use mathlib.Core.List.{List, [], ◌∷◌, ◌++◌}
 use mathlib.Core.Bool.{Bool, true, false}
-use Prim.Native.Nat.{ℕ, zero, suc, ◌+◌, ◌≤◌, ◌<◌}
-use native.Mathlib.Omega.{arith}
+use Prim.Native.Nat.{ℕ}
 use Rattle.theory.proofs.Lists.{cons_head, cons_tail, nil-cons, true-false}
 use Rattle.theory.specs.Lists.{last_or}
 use Rattle.theory.specs.Paper.{pass}
 
 module _ (p : ℕ) (meets : ℕ → ℕ → Bool) where
   pub pass-hit : (x y : ℕ) (t : List ℕ) → meets x y ≡ true → pass p meets (x ∷ y ∷ t) ≡ p ∷ pass p meets t
-  pass-hit x y t e = rw e
+  pass-hit x y t e = rw (e, pass)
 
   pub pass_miss : (x y : ℕ) (t : List ℕ) → meets x y ≡ false → pass p meets (x ∷ y ∷ t) ≡ x ∷ pass p meets (y ∷ t)
-  pass_miss x y t e = rw e
+  pass_miss x y t e = rw (e, pass)
 
   pub record Split (S X Y : List ℕ) : Type 0 where
     pub fst : List ℕ

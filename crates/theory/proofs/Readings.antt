@@ -1,11 +1,9 @@
 -- Both readings of "join across the seam" are one on a lawful dictionary: a row that has the two as its parts, and any row that has their joined bytes.
 use mathlib.Core.Path.{◌≡◌, refl, sym, ap, ap₂, ◌∙◌}
-use mathlib.Core.Logic.{◌⊎◌, inl, inr, ⊎_elim}
 use mathlib.Core.List.{List, [], ◌∷◌, ◌++◌}
 use mathlib.Core.Bool.{Bool, true, false}
 use Prim.Native.Nat.{ℕ, zero, suc, ◌+◌, ◌≤◌, ◌<◌}
 use native.Mathlib.Omega.{arith}
-use lib.Dec.{ltb}
 use borrow.Author.Tests.{ltb-true, lt-ltb}
 use Rattle.theory.specs.Dictionary.{Dictionary}
 use Rattle.theory.specs.Merge.{join}
@@ -13,7 +11,7 @@ use Rattle.theory.specs.Paper.{stage}
 use Rattle.theory.specs.PairCheck.{Turn, stop, undo_left, undo_right, turn, listed_below, joined_below, walk, passes, passes_joined}
 use Rattle.theory.proofs.Lists.{cons_tail, nil-cons, true-false, bool_cases}
 use Rattle.theory.proofs.Stage as St
-use Rattle.theory.proofs.PairCheck.{Lawful, Turned, turned, Under, own, itself, sound, listed_below-some}
+use Rattle.theory.proofs.PairCheck.{Lawful, Turned, turned, own, itself, sound, listed_below-some}
 use Rattle.theory.proofs.Merge.{row_below-is, join_is}
 
 module _ (D : Dictionary) (A : Lawful D) where

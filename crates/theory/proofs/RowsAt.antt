@@ -1,20 +1,18 @@
 -- The rows that begin a text, longest first: each is there once, every such row is, and behind each stand its prefixes (theorem 5).
 use mathlib.Core.Path.{◌≡◌, refl, sym, ap, ap₂, ◌∙◌}
 use mathlib.Core.Logic.{◌⊎◌, inl, inr, ⊎_elim}
-use mathlib.Core.List.{List, [], ◌∷◌, ◌++◌, append-nil}
-use mathlib.Core.Bool.{Bool, true, false}
-use Prim.Native.Nat.{ℕ, zero, suc, ◌+◌, ◌-◌, ◌≤◌, ◌<◌}
+use mathlib.Core.List.{List, [], ◌∷◌, ◌++◌}
+use Prim.Native.Nat.{ℕ, zero, suc, ◌-◌, ◌≤◌, ◌<◌}
 use native.Mathlib.Nat.{eq-or-lt_of_le}
 use native.Mathlib.Omega.{arith}
-use lib.ListN.{length, length-append, length-take, take, drop, take-append-drop}
+use lib.ListN.{length, length-take, take, drop, take-append-drop}
 use lib.Seq.{take_at, take-take}
-use lib.Dec.{ltb}
-use borrow.Author.Tests.{ltb-true, lt-ltb, le-ltb}
+use borrow.Author.Tests.{lt-ltb, le-ltb}
 use Rattle.theory.specs.Lists.{first_or, In}
 use Rattle.theory.specs.Dictionary.{Dictionary, none}
-use Rattle.theory.specs.Merge.{row_below, row_of}
+use Rattle.theory.specs.Merge.{row_of}
 use Rattle.theory.specs.Parts.{rows_up_to, rows_at, prefixes}
-use Rattle.theory.proofs.Lists.{cons_head, cons_tail, nil-cons, true-false, bool_cases, lt_or_ge}
+use Rattle.theory.proofs.Lists.{cons_head, cons_tail, nil-cons, lt_or_ge}
 use Rattle.theory.proofs.PairCheck.{Lawful}
 use Rattle.theory.proofs.Merge.{row_below-is, row_below-found, distinct}
 

@@ -1,12 +1,10 @@
 -- Document 01's cases marked P, computed on the definitions; and what its sample files are.
 use mathlib.Core.Path.{◌≡◌, refl}
-use mathlib.Core.List.{List, [], ◌∷◌, map}
-use mathlib.Core.Option.{Option, none, some}
-use Prim.Native.Nat.{ℕ}
+use mathlib.Core.List.{[], ◌∷◌, map}
+use mathlib.Core.Option.{none}
 use lib.ListN.{get_or}
-use Rattle.theory.specs.Dictionary.{Dictionary}
 use Rattle.theory.specs.Merge.{encode}
-use Rattle.theory.specs.Parts.{Parts, Accepted, dictionary, parts_below, longest_at}
+use Rattle.theory.specs.Parts.{Accepted, dictionary, parts_below, longest_at}
 use Rattle.theory.specs.Shortest.{shortest, greedy}
 use Rattle.theory.specs.Typing.{count_at}
 use Rattle.theory.specs.Tree.{interval_count}

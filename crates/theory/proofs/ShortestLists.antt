@@ -1,5 +1,5 @@
 -- The element with the least value, of equally low ones the first.
-use mathlib.Core.Path.{◌≡◌, refl, sym, ap, ◌∙◌}
+use mathlib.Core.Path.{◌≡◌, refl, sym, ap, ◌∙◌, subst}
 use mathlib.Core.Logic.{◌⊎◌, inl, inr, ⊎_elim}
 use mathlib.Core.List.{List, [], ◌∷◌}
 use mathlib.Core.Bool.{true, false}
@@ -33,8 +33,8 @@ module _ (f : ℕ → ℕ) where
   least_in c (d ∷ ds) = go (lt_or_ge (f d) (f c)) (least_in c ds) (least_in d ds)
     where
       go : (f d < f c) ⊎ (f c ≤ f d) → In (least c ds) (c ∷ ds) → In (least d ds) (d ∷ ds) → In (least c (d ∷ ds)) (c ∷ d ∷ ds)
-      go (inl h) i j = rw (least-lower c d ds h) (inr j)
-      go (inr h) i j = rw (least_kept c d ds h) (⊎_elim (λ e. inl e) (λ m. inr (inr m)) i)
+      go (inl h) i j = subst (λ x. In x (c ∷ d ∷ ds)) (sym (least-lower c d ds h)) (inr j)
+      go (inr h) i j = subst (λ x. In x (c ∷ d ∷ ds)) (sym (least_kept c d ds h)) (⊎_elim (λ e. inl e) (λ m. inr (inr m)) i)
 
   -- none has a lower value
   pub least-low : (c : ℕ) (cs : List ℕ) (x : ℕ) → In x (c ∷ cs) → f (least c cs) ≤ f x

@@ -1,6 +1,6 @@
 -- The tree numbers, over any parent that is lower than its child: p is e or above it exactly if number p ≤ number e < end p; and the
 -- step laws of the algorithm that finds sizes, numbers and ends. Rests on: of the children of p one is above e, if p is above e.
-use mathlib.Core.Path.{◌≡◌, refl, sym, ap, ◌∙◌}
+use mathlib.Core.Path.{◌≡◌, refl, sym, ap, ◌∙◌, subst}
 use mathlib.Core.Logic.{◌⊎◌, inl, inr, ⊎_elim, ◌↔◌}
 use mathlib.Core.Bool.{Bool, true, false, ◌&&◌, ◌||◌}
 use Prim.Native.Nat.{ℕ, zero, suc, ◌+◌, ◌-◌, ◌≤◌, ◌<◌}
@@ -231,7 +231,12 @@ module _ (parent : ℕ → ℕ) where
     -- number(child) = number(parent) + 1 + the sizes of the earlier children
     pub number-child : (q i : ℕ) → 0 < i → i ≤ m → parent i ≡ q → number parent m i ≡ number parent m q + 1 + children_below parent m q i
     number-child q zero z h e = absurd (omega arith)
-    number-child q (suc i) z h e = let w = lower (suc i) z h in rw (← e, enough-number i (parent (suc i)) (parent (suc i)) (omega arith) (omega arith) (omega arith))
+    number-child q (suc i) z h e =
+        let w = lower (suc i) z h in
+        subst
+        (λ x. number parent m (suc i) ≡ number parent m x + 1 + children_below parent m x (suc i))
+        e
+        (rw (enough-number i (parent (suc i)) (parent (suc i)) (omega arith) (omega arith) (omega arith)))
 
     pub end_children : (p : ℕ) → p ≤ m → end parent m p ≡ number parent m p + 1 + children_below parent m p (suc m)
     end_children p h = omega (arith, size_children p h)

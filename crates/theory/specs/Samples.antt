@@ -1,6 +1,5 @@
 -- Document 01's sample phrase files and its cases marked P, as one table.
 use Rattle.std.specs.Prelude.{List, [], ◌∷◌, Bool, true, false, ℕ, zero, suc}
-use Rattle.theory.specs.Dictionary.{Dictionary}
 use Rattle.theory.specs.Merge.{encode}
 use Rattle.theory.specs.PairCheck.{passes}
 use Rattle.theory.specs.Parts.{dictionary}

@@ -1,7 +1,6 @@
 -- The shortest and the greedy codes of a text.
 use Rattle.std.specs.Prelude.{◌≡◌, ◌⊎◌, List, [], ◌∷◌, true, false, ℕ, zero, suc, ◌-◌, ◌<◌, length, get_or, drop, ltb}
-use Rattle.theory.specs.Dictionary.{Dictionary, none}
-use Rattle.theory.specs.Lists.{first_or}
+use Rattle.theory.specs.Dictionary.{Dictionary}
 use Rattle.theory.specs.Parts.{rows_at, longest_at}
 
 module _ (D : Dictionary) where

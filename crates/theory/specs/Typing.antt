@@ -1,6 +1,6 @@
 -- Typing records. Bytes stand in the order in which they were typed: appending puts each at the end of the text,
 -- prepending at the front.
-use Rattle.std.specs.Prelude.{◌≡◌, ◌⊎◌, List, [], ◌++◌, reverse, Bool, true, false, ◌&&◌, ◌||◌, ℕ, suc, ◌-◌, ◌<◌, length, get_or, take, drop, ltb, leb, eqb}
+use Rattle.std.specs.Prelude.{◌≡◌, ◌⊎◌, List, [], ◌++◌, reverse, Bool, true, ◌&&◌, ◌||◌, ℕ, suc, ◌-◌, ◌<◌, length, get_or, take, drop, ltb, leb, eqb}
 use Rattle.theory.specs.Dictionary.{Dictionary, none}
 use Rattle.theory.specs.Lists.{first_or, last_or, equal}
 use Rattle.theory.specs.Merge.{encode}

@@ -3,6 +3,8 @@
 // "No join across the seam may exist" is read as in the Rust, by the parts of rows; proofs/Demands.antt shows that on
 // accepted rows it is the same check by their bytes. The merge procedure and the pair check have edits of their own in
 // the gate, since every contract cites them and no call's edit can show that they are right.
+#![tactic(auto)]
+
 ghost use Rattle.std.specs.Prelude.{◌≡◌};
 ghost use Rattle.theory.specs.Dictionary as Dictionary;
 

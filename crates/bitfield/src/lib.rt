@@ -3,6 +3,8 @@
 // by value, as document 01 has them, and copy its 520 bytes: clearing a bit and finding the next set one takes some 35
 // to 50 ns by the methods and 2 to 3 by the functions. The searches answer an enum and not a number with a value for
 // none, so that no place can pass as none.
+#![tactic(auto)]
+
 ghost use Rattle.std.specs.Prelude.{◌≡◌, suc, ◌-◌, ◌<◌, min};
 ghost use Rattle.bitfield.specs.Bits.{word_bit, is_set, all_set, without, lowest, highest, successor, predecessor};
 ghost use Rattle.bitfield.specs.Bits.{Cleared, place_of};

@@ -1,4 +1,6 @@
 // FNV-1a at 64 bits, and the hash of a row.
+#![tactic(auto)]
+
 mod wrapping;
 
 ghost use Rattle.std.specs.Prelude.{◌≡◌};

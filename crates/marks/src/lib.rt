@@ -1,6 +1,8 @@
 // A Bloom filter in the search area: two bits of one number for each key, and where both are clear the key is marked. A
 // key that is not marked needs no look-up. Marks are clear bits because a run of NONE then has nothing marked: one fill
 // empties buckets, names and marks.
+#![tactic(auto)]
+
 ghost use Rattle.std.specs.Prelude.{◌≡◌, ◌+◌, ◌/◌, ◌<◌, ◌≤◌, length};
 ghost use Rattle.marks.specs.Layout.{area_size};
 ghost use Rattle.bitfield.specs.Bits.{word_bit, without};

@@ -1,5 +1,7 @@
 // The phrase file: its records are found, counted and checked, and their places written to a table. The length is
 // looked at before the records, so that a file that is too long is told so whatever else is wrong with it.
+#![tactic(auto)]
+
 ghost use Rattle.std.specs.Prelude.{◌≡◌, ◌++◌, false, ℕ, length, get_or, drop};
 ghost use Rattle.phrase_file.specs.Form.{row_length, row_bytes, places, rows};
 ghost use Rattle.phrase_file.specs.Checks.{first_not, check_of};

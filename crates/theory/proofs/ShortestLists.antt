@@ -34,7 +34,9 @@ module _ (f : ℕ → ℕ) where
     where
       go : (f d < f c) ⊎ (f c ≤ f d) → In (least c ds) (c ∷ ds) → In (least d ds) (d ∷ ds) → In (least c (d ∷ ds)) (c ∷ d ∷ ds)
       go (inl h) i j = subst (λ x. In x (c ∷ d ∷ ds)) (sym (least-lower c d ds h)) (inr j)
-      go (inr h) i j = subst (λ x. In x (c ∷ d ∷ ds)) (sym (least_kept c d ds h)) (⊎_elim (λ e. inl e) (λ m. inr (inr m)) i)
+      go (inr h) i j =
+          let kept : In (least c ds) (c ∷ d ∷ ds) = ⊎_elim (λ e. inl e) (λ m. inr (inr m)) i in
+          subst (λ x. In x (c ∷ d ∷ ds)) (sym (least_kept c d ds h)) kept
 
   -- none has a lower value
   pub least-low : (c : ℕ) (cs : List ℕ) (x : ℕ) → In x (c ∷ cs) → f (least c cs) ≤ f x

@@ -1,5 +1,7 @@
 // The rows of a phrase file, read through the table of places, and texts read from the front or from the back. NONE is
 // handed on from `theory`, which stands below everything that speaks of rows, so that there is one definition of it.
+#![tactic(auto)]
+
 ghost use Rattle.std.specs.Prelude.{◌≡◌, ℕ, ◌<◌, length};
 ghost use Rattle.placed_rows.specs.Rows.{row, Placed};
 ghost use Rattle.placed_rows.specs.Texts.{begins, facing, Small};

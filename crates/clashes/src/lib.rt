@@ -1,6 +1,8 @@
 // The lowest row with the bytes of an earlier row, and the lowest with the hash of one, found by a table of hashes in a
 // scratch buffer. Document 02 calls two rows of different bytes with one hash a clash, hence the name. Where no two
 // rows are equal, the lowest row with the hash of an earlier one is the lowest that clashes.
+#![tactic(auto)]
+
 ghost use Rattle.std.specs.Prelude.{◌≡◌, ◌%◌, ◌<◌, ◌≤◌, length};
 ghost use Rattle.theory.specs.Lists.{equal};
 ghost use Rattle.placed_rows.specs.Rows.{row, Placed};

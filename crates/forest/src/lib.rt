@@ -1,6 +1,8 @@
 // The front of the search area: the rows of a phrase file as a forest under "next shorter prefix". The bucket is a
 // multiple of the prefix's number plus the next byte, so that the byte in a word tells the prefix. Rows go in by rising
 // length, so that a row one byte longer than its prefix, first in its bucket, takes one load and one comparison.
+#![tactic(auto)]
+
 ghost use Rattle.std.specs.Prelude.{◌≡◌, true, ◌+◌, ◌-◌, ◌%◌, ◌<◌, ◌≤◌, ◌⊎◌, length, get_or, drop};
 ghost use Rattle.marks.specs.Layout.{row_marks, hints};
 ghost use Rattle.theory.specs.Dictionary.{none};

@@ -1,5 +1,7 @@
 // Whether dictionary tables are in form, as document 01 defines it, and the calls that need no more than that. No more
 // is asked than it says: a prefix need not begin its row, and equal or clashing rows are in form.
+#![tactic(auto)]
+
 ghost use Rattle.std.specs.Prelude.{◌≡◌, ◌<◌};
 ghost use Rattle.tables.specs.Tables.{lent};
 ghost use Rattle.tables.specs.InForm.{all_below, prefix_in_form, parts_in_form, row_in_form, form_of};

@@ -7,10 +7,9 @@ use Prim.Native.Nat.{ℕ, zero, suc, ◌≤◌, ◌<◌}
 use native.Mathlib.Decide.{dec_lt}
 use native.Mathlib.Omega.{arith}
 use borrow.Author.Tests.{eq-eqb}
-use Rattle.theory.specs.Lists.{equal}
 use Rattle.theory.proofs.Lists.{true-false, bool_cases, equal_eq}
 use Rattle.fnv.specs.Fnv.{row_hash}
-use Rattle.clashes.specs.Clashes.{seen, lowest, first_with, is_equal, shares_hash, clashes}
+use Rattle.clashes.specs.Clashes.{seen, first_with, is_equal, shares_hash, clashes}
 use Rattle.clashes.proofs.Lowest.{lowest-at, lowest-none, lowest-same, below-lowest}
 
 pub and-true : (a : Bool) → a && true ≡ a

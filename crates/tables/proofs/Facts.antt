@@ -16,7 +16,6 @@ use Rattle.phrase_file.proofs.Checks.{accepted}
 use Rattle.placed_rows.proofs.Beginning.{and_both, no_true, true-false}
 use Rattle.tables.specs.Tables.{Tables}
 use Rattle.tables.specs.declared.Form.{Form}
-use Rattle.tables.specs.declared.Form.TheVariants as Form
 use Rattle.theory.specs.Lists.{equal}
 use Rattle.theory.proofs.Lists.{equal_eq}
 use Rattle.tables.specs.InForm.{all_below, is_rows, count, row_size, row_in_form, large_enough, in_form, form_of}

@@ -20,7 +20,6 @@ use Rattle.placed_rows.specs.Rows.{row}
 use Rattle.placed_rows.proofs.Beginning.{and_both}
 use Rattle.tables.specs.Tables.{Tables}
 use Rattle.tables.specs.declared.Form.{Form}
-use Rattle.tables.specs.declared.Form.TheVariants as Form
 use Rattle.tables.specs.InForm.{row_size, prefix_in_form, parts_in_form, row_in_form, form_of, is_out}
 use Rattle.tables.specs.Ready.{Lower, PartsReady, PlacesReady, PrefixesReady, Ready}
 use Rattle.tables.proofs.Facts.{Facts, form-facts, facts-form}

@@ -1,5 +1,5 @@
 -- Dictionary tables in form, as document 01 defines it.
-use Rattle.std.specs.Prelude.{List, [], ◌∷◌, Bool, true, false, cond, ◌&&◌, ◌||◌, ℕ, zero, suc, ◌+◌, length, get_or, take, ltb, leb, eqb}
+use Rattle.std.specs.Prelude.{List, [], Bool, true, false, cond, ◌&&◌, ◌||◌, ℕ, zero, suc, ◌+◌, length, get_or, take, ltb, leb, eqb}
 use Rattle.marks.specs.Layout.{area_size}
 use Rattle.causes.specs.declared.BuildAnswer.{BuildAnswer}
 use Rattle.causes.specs.declared.BuildAnswer.TheVariants.{Rows, Refused}
@@ -9,7 +9,6 @@ use Rattle.theory.specs.Dictionary.{none}
 use Rattle.theory.specs.Lists.{equal}
 use Rattle.tables.specs.Tables.{Tables}
 use Rattle.tables.specs.declared.Form.{Form}
-use Rattle.tables.specs.declared.Form.TheVariants as Form
 
 -- whether a test holds of every number below n
 unfoldable pub all_below : ℕ → (ℕ → Bool) → Bool

@@ -1,13 +1,7 @@
 -- `clashes::empty` meets its contract. The loop's invariant: the first i heads are none, the rest is as at the start. Assumes nothing.
-use mathlib.Core.Path.{◌≡◌, ap, ◌∙◌}
-use mathlib.Core.List.{List}
-use Prim.Native.Nat.{ℕ, ◌≤◌, ◌-◌}
-use lib.ListN.{length, set}
-use Rattle.theory.specs.Dictionary.{none}
-use native.Mathlib.Omega.{arith}
+use mathlib.Core.Path.{◌≡◌}
+use Prim.Native.Nat.{◌≤◌, ◌-◌}
 use Rattle.clashes.specs.Buckets.{emptied}
-use Rattle.clashes.proofs.Chains.{emptied-start, emptied-more, emptied-length}
-use borrow.Author.Rules.{rules}
 use Rattle.clashes.proofs.empty.Given as goal
 
 abbrev pub invariant-loop-i : goal.invariant-loop-i

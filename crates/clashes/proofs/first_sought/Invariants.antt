@@ -1,11 +1,7 @@
 -- `clashes::first_sought` meets its contract. The loop's invariant: the rows looked at stand in the scratch, and none of them has what is looked for of an earlier one. Assumes nothing.
-use mathlib.Core.Path.{◌≡◌}
 use Prim.Native.Nat.{◌≤◌, ◌-◌}
-use native.Mathlib.Omega.{arith}
-use lib.ListN.{length}
 use Rattle.placed_rows.specs.Rows.{row as row_of}
-use Rattle.clashes.proofs.Indexed.{Looked, indexed_start, stops, goes_on, whole-kept, found_at, found_none}
-use borrow.Author.Rules.{rules}
+use Rattle.clashes.proofs.Indexed.{Looked}
 use Rattle.clashes.proofs.first_sought.Given as goal
 
 abbrev pub invariant-loop-row : goal.invariant-loop-row

@@ -1,12 +1,10 @@
 -- `clashes::has` meets its contract. The loop's invariant: the list from row `at`, over the rows below `below`, gives the bucket's answer. Assumes nothing.
-use mathlib.Core.Path.{◌≡◌, sym, ap, ◌∙◌}
-use Prim.Native.Nat.{ℕ, ◌≤◌}
+use mathlib.Core.Path.{sym, ap, ◌∙◌}
+use Prim.Native.Nat.{ℕ}
 use native.Mathlib.Omega.{arith}
 use lib.ListN.{get_or}
-use Rattle.placed_rows.specs.Rows.{row}
-use Rattle.clashes.specs.Buckets.{head, listed, is_sought}
+use Rattle.clashes.specs.Buckets.{listed}
 use Rattle.clashes.proofs.Chains.{listed_out, listed_here, listed-on}
-use borrow.Author.Rules.{rules}
 use Rattle.clashes.proofs.has.Goals as goal
 
 pub loop-at-init : goal.loop-at-init

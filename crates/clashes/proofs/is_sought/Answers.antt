@@ -1,7 +1,6 @@
 -- `clashes::is_sought` meets its contract: each answer is a case of the definition. Assumes nothing.
 use native.Mathlib.Omega.{arith}
 use Rattle.clashes.proofs.Bytes.{other_hash, by_hash, by_bytes}
-use borrow.Author.Rules.{rules}
 use Rattle.clashes.proofs.is_sought.Goals as goal
 
 pub returns-then-scratch-c : goal.returns-then-scratch-c

@@ -4,7 +4,6 @@ use Prim.Native.Nat.{ℕ, ◌+◌}
 use native.Mathlib.Omega.{arith}
 use lib.ListN.{get_or, set, length-set}
 use Rattle.clashes.specs.Buckets.{pushed}
-use borrow.Author.Rules.{rules}
 use Rattle.clashes.proofs.push.Goals as goal
 
 pub bounds-scratch-row-2 : goal.bounds-scratch-row-2

@@ -2,7 +2,6 @@
 use mathlib.Core.Path.{◌∙◌}
 use native.Mathlib.Omega.{arith}
 use Rattle.clashes.proofs.Bytes.{other-lengths, begins-equal}
-use borrow.Author.Rules.{rules}
 use Rattle.clashes.proofs.same_bytes.Goals as goal
 
 pub returns-then-p-t : goal.returns-then-p-t

@@ -84,16 +84,16 @@ returns-then-r c =
 
 pub overflow_sub-end : goal.overflow_sub-end
 overflow_sub-end c =
-    let gone : let a = c.args in let l = c.loop-end in let r = c.child-m.result in
-    Turn (row a.file.now a.places.now a.n) a.n a.area.now a.from a.len (drop a.at a.text.now) l.best (a.len + (l.end - a.at)) (l.end - a.at) r.row r.len = let a = c.args in
+    let gone : (let a = c.args in let l = c.loop-end in let r = c.child-m.result in
+    Turn (row a.file.now a.places.now a.n) a.n a.area.now a.from a.len (drop a.at a.text.now) l.best (a.len + (l.end - a.at)) (l.end - a.at) r.row r.len) = let a = c.args in
     let l = c.loop-end in
     turn _ _ _ _ _ _ _ _ _ _ _ _ (inside _ _ _ l.invariant.0 l.invariant.1.0) l.invariant.1.1.1 c.child-m.ensures (rest-later a.text.now a.at l.end l.invariant.0) c.if-r.false in
     let t = gone in omega (arith, t.step.longer)
 
 pub overflow_add-end-in-loop-end : goal.overflow_add-end-in-loop-end
 overflow_add-end-in-loop-end c =
-    let gone : let a = c.args in let l = c.loop-end in let r = c.child-m.result in
-    Turn (row a.file.now a.places.now a.n) a.n a.area.now a.from a.len (drop a.at a.text.now) l.best (a.len + (l.end - a.at)) (l.end - a.at) r.row r.len = let a = c.args in
+    let gone : (let a = c.args in let l = c.loop-end in let r = c.child-m.result in
+    Turn (row a.file.now a.places.now a.n) a.n a.area.now a.from a.len (drop a.at a.text.now) l.best (a.len + (l.end - a.at)) (l.end - a.at) r.row r.len) = let a = c.args in
     let l = c.loop-end in
     turn _ _ _ _ _ _ _ _ _ _ _ _ (inside _ _ _ l.invariant.0 l.invariant.1.0) l.invariant.1.1.1 c.child-m.ensures (rest-later a.text.now a.at l.end l.invariant.0) c.if-r.false in
     let t = gone in
@@ -103,16 +103,16 @@ overflow_add-end-in-loop-end c =
 
 pub loop-end-smaller : goal.loop-end-smaller
 loop-end-smaller c =
-    let gone : let a = c.args in let l = c.loop-end in let r = c.child-m.result in
-    Turn (row a.file.now a.places.now a.n) a.n a.area.now a.from a.len (drop a.at a.text.now) l.best (a.len + (l.end - a.at)) (l.end - a.at) r.row r.len = let a = c.args in
+    let gone : (let a = c.args in let l = c.loop-end in let r = c.child-m.result in
+    Turn (row a.file.now a.places.now a.n) a.n a.area.now a.from a.len (drop a.at a.text.now) l.best (a.len + (l.end - a.at)) (l.end - a.at) r.row r.len) = let a = c.args in
     let l = c.loop-end in
     turn _ _ _ _ _ _ _ _ _ _ _ _ (inside _ _ _ l.invariant.0 l.invariant.1.0) l.invariant.1.1.1 c.child-m.ensures (rest-later a.text.now a.at l.end l.invariant.0) c.if-r.false in
     let t = gone in omega (arith, t.step.longer, t.step.fits, c.loop-end-test.true)
 
 pub loop-end-preserved : goal.loop-end-preserved
 loop-end-preserved c =
-    let gone : let a = c.args in let l = c.loop-end in let r = c.child-m.result in
-    Turn (row a.file.now a.places.now a.n) a.n a.area.now a.from a.len (drop a.at a.text.now) l.best (a.len + (l.end - a.at)) (l.end - a.at) r.row r.len = let a = c.args in
+    let gone : (let a = c.args in let l = c.loop-end in let r = c.child-m.result in
+    Turn (row a.file.now a.places.now a.n) a.n a.area.now a.from a.len (drop a.at a.text.now) l.best (a.len + (l.end - a.at)) (l.end - a.at) r.row r.len) = let a = c.args in
     let l = c.loop-end in
     turn _ _ _ _ _ _ _ _ _ _ _ _ (inside _ _ _ l.invariant.0 l.invariant.1.0) l.invariant.1.1.1 c.child-m.ensures (rest-later a.text.now a.at l.end l.invariant.0) c.if-r.false in
     let t = gone in

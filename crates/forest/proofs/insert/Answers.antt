@@ -23,7 +23,7 @@ word_of-requires c =
 pub push-requires : goal.push-requires
 push-requires c =
     let s = c in
-    record { in_bounds = c.requires.placed.few; row_bound = (omega (arith, c.requires.placed.few, c.requires.hints_in_bounds.1.0), (c.bucket_of-h.ensures.below, omega (arith, c.requires.hints_in_bounds.0, length_marked _ _ _ c.mark.ensures))) }
+    (c.requires.placed.few, (omega (arith, c.requires.placed.few, c.requires.hints_in_bounds.1.0), (c.bucket_of-h.ensures.below, omega (arith, c.requires.hints_in_bounds.0, length_marked _ _ _ c.mark.ensures))))
 
 pub returns-then-k-bytes : goal.returns-then-k-bytes
 returns-then-k-bytes c =
@@ -35,7 +35,7 @@ returns-then-k-bytes c =
     c.mark.ensures
     c.child_key.ensures.is
     refl
-    (omega (arith, c.type_inv.bytes m.result.len))
+    (c.bytes_of-bytes.items_fit m.result.len)
     c.bucket_of-h.ensures.is
     c.word_of.ensures
     c.tag_of.ensures

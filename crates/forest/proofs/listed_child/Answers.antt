@@ -28,13 +28,13 @@ returns-then-n-i c =
 
 pub overflow_add-result : goal.overflow_add-result
 overflow_add-result c =
-    let fitting : let a = c.args in let l = c.loop-n in Fits (row a.file.now a.places.now a.n) a.n a.p a.len (drop a.at a.text.now) l.w true = rw c.if-fits.true at c.fits2.ensures in
+    let fitting : (let a = c.args in let l = c.loop-n in Fits (row a.file.now a.places.now a.n) a.n a.p a.len (drop a.at a.text.now) l.w true) = rw c.if-fits.true at c.fits.ensures in
     let s = c in
     omega (arith, (fitting).room refl, c.more_of.ensures.is, c.requires.at_bound.1, length-drop c.args.at c.args.text.now)
 
 pub returns-then-fits : goal.returns-then-fits
 returns-then-fits c =
-    let fitting : let a = c.args in let l = c.loop-n in Fits (row a.file.now a.places.now a.n) a.n a.p a.len (drop a.at a.text.now) l.w true = rw c.if-fits.true at c.fits2.ensures in
+    let fitting : (let a = c.args in let l = c.loop-n in Fits (row a.file.now a.places.now a.n) a.n a.p a.len (drop a.at a.text.now) l.w true) = rw c.if-fits.true at c.fits.ensures in
     let s = c in
     let l = c.loop-n in
     let i = c.row_of-i in
@@ -53,11 +53,11 @@ overflow_sub-left c = let l = c.loop-n in some l.left _ c.row_of-i.result l.inva
 
 pub returns-then-left-eq0 : goal.returns-then-left-eq0
 returns-then-left-eq0 c =
-    let behind : let a = c.args in let l = c.loop-n in let i = c.row_of-i.result in
-    Search (row a.file.now a.places.now a.n) a.n a.area.now a.p a.len (drop a.at a.text.now) (get_or a.area.now (8448 + i) 0) (l.left - 1) = let l = c.loop-n in
+    let behind : (let a = c.args in let l = c.loop-n in let i = c.row_of-i.result in
+    Search (row a.file.now a.places.now a.n) a.n a.area.now a.p a.len (drop a.at a.text.now) (get_or a.area.now (8448 + i) 0) (l.left - 1)) = let l = c.loop-n in
     let i = c.row_of-i in
     let h : i.result < c.args.n = omega (arith, c.if-n-i.false) in
-    search_step _ _ _ _ _ _ l.w i.result l.left i.ensures.is (some l.left _ i.result l.invariant.1.0 h) h (rw c.if-fits.false at c.fits2.ensures) l.invariant.1.1 in
+    search_step _ _ _ _ _ _ l.w i.result l.left i.ensures.is (some l.left _ i.result l.invariant.1.0 h) h (rw c.if-fits.false at c.fits.ensures) l.invariant.1.1 in
     let l = c.loop-n in
     rw c.no_match-then-left-eq0.ensures (search_over _ _ _ _ _ _ _ (l.left - 1) _ (walk-zero _ _ (l.left - 1) _ (omega (arith, c.if-left-eq0.true))) (behind))
 
@@ -69,9 +69,9 @@ loop-n-smaller c =
 
 pub loop-n-preserved : goal.loop-n-preserved
 loop-n-preserved c =
-    let behind : let a = c.args in let l = c.loop-n in let i = c.row_of-i.result in
-    Search (row a.file.now a.places.now a.n) a.n a.area.now a.p a.len (drop a.at a.text.now) (get_or a.area.now (8448 + i) 0) (l.left - 1) = let l = c.loop-n in
+    let behind : (let a = c.args in let l = c.loop-n in let i = c.row_of-i.result in
+    Search (row a.file.now a.places.now a.n) a.n a.area.now a.p a.len (drop a.at a.text.now) (get_or a.area.now (8448 + i) 0) (l.left - 1)) = let l = c.loop-n in
     let i = c.row_of-i in
     let h : i.result < c.args.n = omega (arith, c.if-n-i.false) in
-    search_step _ _ _ _ _ _ l.w i.result l.left i.ensures.is (some l.left _ i.result l.invariant.1.0 h) h (rw c.if-fits.false at c.fits2.ensures) l.invariant.1.1 in
+    search_step _ _ _ _ _ _ l.w i.result l.left i.ensures.is (some l.left _ i.result l.invariant.1.0 h) h (rw c.if-fits.false at c.fits.ensures) l.invariant.1.1 in
     (let l = c.loop-n in let z = l.invariant.0 in omega arith, ((λ z. absurd (c.if-left-eq0.false z)), behind))

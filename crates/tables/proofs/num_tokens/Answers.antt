@@ -1,6 +1,5 @@
 -- `num_tokens` meets its contract by the answer of `tables_in_form`. Assumes nothing.
 use mathlib.Core.Path.{sym, ◌∙◌}
-use borrow.Author.Rules.{rules}
 use Rattle.tables.proofs.Calls.{tokens_out, tokens_counted}
 use Rattle.tables.proofs.num_tokens.Goals as goal
 

@@ -1,9 +1,8 @@
 -- `places_match` meets its contract: before each row the places passed match the file and the lengths of these rows are written. Assumes nothing.
 use mathlib.Core.Path.{◌∙◌}
-use Prim.Native.Nat.{◌+◌, ◌-◌, ◌<◌}
+use Prim.Native.Nat.{◌+◌, ◌<◌}
 use native.Mathlib.Omega.{arith}
 use lib.ListN.{get_or, set}
-use borrow.Author.Rules.{rules}
 use Rattle.phrase_file.proofs.Checks.{accepted}
 use Rattle.tables.proofs.Matching.{Matching, match_start, match_fails, match_more, match_done, next_row}
 use Rattle.tables.proofs.places_match.Goals as goal
@@ -28,9 +27,9 @@ bounds-sizes-row c = let a = accepted _ _ c.requires.passed in omega (arith, a.m
 pub overflow_add-at-in-loop-row : goal.overflow_add-at-in-loop-row
 overflow_add-at-in-loop-row c =
     let below : c.loop-row.row < c.args.n = omega (arith, c.loop-row-test.true) in
-    let turn : Matching ((c)).args.file.now ((c)).args.places.now ((c)).args.n
-    (set ((c)).loop.sizes ((c)).loop.row (get_or ((c)).args.file.now (c.wide-place.result + 2) 0))
-    (((c)).loop.at + 3 + c.wide_byte.result) (((c)).loop.row + 1) = match_more _ _ _ _ ((c)).requires _ _ _ ((c)).loop.invariant (below)
+    let turn : Matching c.args.file.now c.args.places.now c.args.n
+    (set c.loop-row.sizes c.loop-row.row (get_or c.args.file.now (c.wide-place.result + 2) 0))
+    (c.loop-row.at + 3 + c.wide_byte.result) (c.loop-row.row + 1) = match_more _ _ _ _ c.requires _ _ _ c.loop-row.invariant (below)
     _ _ c.wide-place.ensures.is c.if-place-at.false c.wide_byte.ensures.is in
     omega (arith, (turn).inside)
 
@@ -40,9 +39,9 @@ loop-row-smaller c = omega arith
 pub loop-row-preserved : goal.loop-row-preserved
 loop-row-preserved c =
     let below : c.loop-row.row < c.args.n = omega (arith, c.loop-row-test.true) in
-    let turn : Matching ((c)).args.file.now ((c)).args.places.now ((c)).args.n
-    (set ((c)).loop.sizes ((c)).loop.row (get_or ((c)).args.file.now (c.wide-place.result + 2) 0))
-    (((c)).loop.at + 3 + c.wide_byte.result) (((c)).loop.row + 1) = match_more _ _ _ _ ((c)).requires _ _ _ ((c)).loop.invariant (below)
+    let turn : Matching c.args.file.now c.args.places.now c.args.n
+    (set c.loop-row.sizes c.loop-row.row (get_or c.args.file.now (c.wide-place.result + 2) 0))
+    (c.loop-row.at + 3 + c.wide_byte.result) (c.loop-row.row + 1) = match_more _ _ _ _ c.requires _ _ _ c.loop-row.invariant (below)
     _ _ c.wide-place.ensures.is c.if-place-at.false c.wide_byte.ensures.is in
     turn
 

@@ -1,11 +1,6 @@
 -- `places_match` meets its contract: before each row the places passed match the file and the lengths of these rows are written. Assumes nothing.
-use mathlib.Core.Path.{◌∙◌}
-use Prim.Native.Nat.{◌+◌, ◌-◌, ◌<◌}
-use native.Mathlib.Omega.{arith}
-use lib.ListN.{get_or, set}
-use borrow.Author.Rules.{rules}
-use Rattle.phrase_file.proofs.Checks.{accepted}
-use Rattle.tables.proofs.Matching.{Matching, match_start, match_fails, match_more, match_done, next_row}
+use Prim.Native.Nat.{◌-◌}
+use Rattle.tables.proofs.Matching.{Matching}
 use Rattle.tables.proofs.places_match.Given as goal
 
 abbrev pub invariant-loop-row : goal.invariant-loop-row

@@ -1,5 +1,4 @@
 -- `prefix_in_form` meets its contract by the cases of a row's prefix in form. Assumes nothing.
-use borrow.Author.Rules.{rules}
 use Rattle.tables.proofs.Entries.{prefix-beyond, prefix-row}
 use Rattle.tables.proofs.prefix_in_form.Goals as goal
 

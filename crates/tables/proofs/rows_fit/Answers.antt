@@ -1,12 +1,9 @@
 -- `rows_fit` meets its contract: prefix and parts of the rows passed are in form. Assumes nothing.
-use mathlib.Core.Path.{◌≡◌, refl, sym, ◌∙◌}
-use mathlib.Core.Bool.{true}
-use Prim.Native.Nat.{◌-◌, ◌≤◌}
+use mathlib.Core.Path.{refl, sym, ◌∙◌}
 use native.Mathlib.Omega.{arith}
 use borrow.Author.Tests.{not-true, not-false}
 use borrow.Author.Rules.{rules}
-use Rattle.tables.specs.InForm.{all_below, row_in_form}
-use Rattle.tables.specs.Steps.{sized}
+use Rattle.tables.specs.InForm.{all_below}
 use Rattle.tables.proofs.Sweeps.{all_more, all_done, all-fails}
 use Rattle.tables.proofs.Entries.{prefix_out, parts_out, row_in}
 use Rattle.tables.proofs.rows_fit.Goals as goal
@@ -25,8 +22,7 @@ pub loop-i-smaller : goal.loop-i-smaller
 loop-i-smaller c = omega arith
 
 pub loop-i-preserved : goal.loop-i-preserved
-loop-i-preserved c =
-    (
+loop-i-preserved c = (
   omega arith,
   all_more _ _ c.loop-i.invariant.1
       (row_in _ _ _ _ _ _ (sym (not-false _ c.if-not-prefix_in_form.false-raw) ∙ c.prefix_in_form.ensures) (sym (not-false _ c.if-not-parts_in_form.false-raw) ∙ c.parts_in_form.ensures)),

@@ -4,7 +4,6 @@ use Prim.Native.Nat.{ℕ}
 use native.Mathlib.Omega.{arith}
 use lib.ListN.{length-replicate}
 use borrow.Author.Tests.{not-true, not-false}
-use borrow.Author.Rules.{rules}
 use Rattle.causes.specs.declared.BuildAnswer.TheVariants.{Rows}
 use Rattle.phrase_file.specs.Checks.{check_of}
 use Rattle.phrase_file.proofs.Checks.{accepted}

@@ -1,7 +1,6 @@
 -- `token_len` meets its contract: rows of tables in form are those of the file. Assumes nothing.
 use mathlib.Core.Path.{◌≡◌, sym, ◌∙◌}
 use native.Mathlib.Omega.{arith}
-use borrow.Author.Rules.{rules}
 use Rattle.tables.specs.Tables.{tables}
 use Rattle.tables.specs.InForm.{form_of}
 use Rattle.tables.specs.declared.Form.TheVariants.{Rows}

@@ -12,7 +12,7 @@ use Rattle.placed_rows.specs.Texts.{Begins, begins}
 use Rattle.marks.specs.Marks.{marked}
 use Rattle.placed_rows.proofs.Beginning.{true-false, begins-split, begins-append, begins-length, beyond, cancel}
 use Rattle.placed_rows.specs.Longest.{Known}
-use Rattle.forest.specs.Words.{row_of, tag_of, more_of, bucket_of, child_key, marks_from, walk, Mem, In, count, byte_of, home, word_of, Indexed}
+use Rattle.forest.specs.Words.{row_of, more_of, bucket_of, child_key, marks_from, walk, Mem, In, count, byte_of, home, word_of, Indexed}
 use Rattle.forest.specs.Lookups.{OneLonger, WordOf, Fits, Child, At, ChildIs}
 use Rattle.forest.proofs.Fitting.{fits_one}
 use Rattle.forest.proofs.Packing.{word_row, word_more, bucket_small, bucket_prefix}

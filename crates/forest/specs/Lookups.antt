@@ -4,7 +4,7 @@ use Rattle.std.specs.Prelude.{◌≡◌, List, [], ◌∷◌, ◌++◌, ◌⊎�
 use Rattle.theory.specs.Dictionary.{none}
 use Rattle.placed_rows.specs.Texts.{Begins, begins}
 use Rattle.placed_rows.specs.Longest.{Known, Longest}
-use Rattle.forest.specs.Words.{word, tag_at, row_of, tag_of, more_of, In, Indexed}
+use Rattle.forest.specs.Words.{word, tag_at, tag_of, more_of, In, Indexed}
 
 -- w is the word of row d, whose prefix is q; where its byte beyond q is the first of rest, the bucket has told that q
 -- is p

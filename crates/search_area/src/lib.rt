@@ -3,6 +3,8 @@
 // than the look-up. The first row at a place is that of its byte, and for this `Finds` says that each byte has a row.
 // None gives the rows that end at a place, which the Rust's table encoder asks for: the end code is found by joins
 // (`end_code`).
+#![tactic(auto)]
+
 ghost use Rattle.std.specs.Prelude.{◌≡◌, ℕ, ◌+◌, ◌<◌, ◌≤◌, length, drop};
 ghost use Rattle.marks.specs.Layout.{area_size};
 ghost use Rattle.theory.specs.Dictionary.{none};

@@ -1,7 +1,6 @@
 -- By the law of the bucket of a row. Assumes nothing.
 use mathlib.Core.Path.{sym}
 use native.Mathlib.Omega.{arith}
-use borrow.Author.Rules.{rules}
 use Rattle.forest.proofs.Packing.{bucket_row}
 use Rattle.forest.proofs.bucket.Goals as goal
 

@@ -2,7 +2,6 @@
 use mathlib.Core.Path.{refl}
 use Prim.Native.Nat.{◌+◌}
 use native.Mathlib.Omega.{arith}
-use borrow.Author.Rules.{rules}
 use Rattle.forest.proofs.Places.{one_at, none-at}
 use Rattle.forest.proofs.bucket_child.Goals as goal
 

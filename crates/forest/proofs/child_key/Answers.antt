@@ -1,7 +1,6 @@
 -- By the definition of the key. Assumes nothing.
 use mathlib.Core.Path.{refl}
 use native.Mathlib.Omega.{arith}
-use borrow.Author.Rules.{rules}
 use Rattle.marks.specs.Marks.{bit_key}
 use Rattle.forest.specs.Words.{child_key}
 use Rattle.forest.proofs.child_key.Goals as goal

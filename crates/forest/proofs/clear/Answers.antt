@@ -1,11 +1,10 @@
 -- The loop keeps that the first i heads are none and the rest is as it was. Assumes nothing.
 use mathlib.Core.Path.{◌≡◌, ap, ◌∙◌}
 use mathlib.Core.List.{List, ◌++◌}
-use Prim.Native.Nat.{ℕ, ◌≤◌, ◌-◌}
+use Prim.Native.Nat.{ℕ, ◌≤◌}
 use native.Mathlib.Omega.{arith}
 use lib.ListN.{set, length, drop, replicate, length-append, length-replicate, length-drop}
 use borrow.Author.Fill.{fill_none, fill_more}
-use borrow.Author.Rules.{rules}
 use Rattle.theory.specs.Dictionary.{none}
 use Rattle.forest.specs.Growth.{cleared}
 use Rattle.forest.proofs.clear.Goals as goal

@@ -5,7 +5,6 @@ use Prim.Native.Nat.{ℕ, ◌+◌, ◌-◌, ◌%◌}
 use native.Mathlib.Omega.{arith}
 use lib.ListN.{length, length-drop, take, drop}
 use lib.Seq.{get_or-drop, take_all}
-use borrow.Author.Rules.{rules}
 use Rattle.placed_rows.specs.Rows.{row}
 use Rattle.placed_rows.specs.Texts.{begins}
 use Rattle.forest.proofs.Fitting.{fits-other, fits-long, fits_one, fits_unlike_second, fits-unlike, fits-compared}

@@ -3,7 +3,6 @@ use mathlib.Core.Path.{refl, ap}
 use mathlib.Core.Logic.{inl, inr, ⊎_elim}
 use native.Mathlib.Omega.{arith}
 use lib.ListN.{length}
-use borrow.Author.Rules.{rules}
 use Rattle.forest.proofs.Marking.{length_marked}
 use Rattle.forest.proofs.Inserting.{insert_none, insert_done}
 use Rattle.forest.proofs.insert.Goals as goal
@@ -35,7 +34,7 @@ returns-then-k-bytes c =
     c.mark.ensures
     c.child_key.ensures.is
     refl
-    (c.bytes_of-bytes.items_fit m.result.len)
+    (omega (arith, c.bytes_of-bytes.items_fit m.result.len))
     c.bucket_of-h.ensures.is
     c.word_of.ensures
     c.tag_of.ensures

@@ -1,10 +1,9 @@
 -- The loop keeps that a child that was not met yet is among the words that are left of the bucket. Assumes nothing.
 use mathlib.Core.Path.{◌≡◌, refl, sym, ap}
 use mathlib.Core.Bool.{true}
-use Prim.Native.Nat.{ℕ, zero, suc, ◌+◌, ◌-◌, ◌≤◌, ◌<◌}
+use Prim.Native.Nat.{ℕ, zero, suc, ◌+◌, ◌-◌, ◌<◌}
 use lib.ListN.{length-drop, get_or, drop}
 use native.Mathlib.Omega.{arith}
-use borrow.Author.Rules.{rules}
 use Rattle.placed_rows.specs.Rows.{row}
 use Rattle.forest.specs.Words.{bucket_of}
 use Rattle.forest.specs.Lookups.{Fits}

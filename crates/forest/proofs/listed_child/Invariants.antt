@@ -1,16 +1,9 @@
 -- The loop keeps that a child that was not met yet is among the words that are left of the bucket. Assumes nothing.
-use mathlib.Core.Path.{◌≡◌, refl, sym, ap}
-use mathlib.Core.Bool.{true}
-use Prim.Native.Nat.{ℕ, zero, suc, ◌+◌, ◌-◌, ◌≤◌, ◌<◌}
-use lib.ListN.{length-drop, get_or, drop}
-use native.Mathlib.Omega.{arith}
-use borrow.Author.Rules.{rules}
+use mathlib.Core.Path.{◌≡◌}
+use Prim.Native.Nat.{◌≤◌}
+use lib.ListN.{drop}
 use Rattle.placed_rows.specs.Rows.{row}
-use Rattle.forest.specs.Words.{bucket_of}
-use Rattle.forest.specs.Lookups.{Fits}
-use Rattle.forest.proofs.Walking.{walk_out, walk-zero}
-use Rattle.forest.proofs.Places.{first-at}
-use Rattle.forest.proofs.Searching.{Search, search_start, search_step, search_hit, search_over}
+use Rattle.forest.proofs.Searching.{Search}
 use Rattle.forest.proofs.listed_child.Given as goal
 
 abbrev pub invariant-loop-n : goal.invariant-loop-n

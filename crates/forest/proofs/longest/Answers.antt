@@ -3,7 +3,6 @@ use mathlib.Core.Logic.{⊎_elim}
 use native.Mathlib.Omega.{arith}
 use lib.ListN.{length, length-drop, drop}
 use lib.Seq.{drop-drop}
-use borrow.Author.Rules.{rules}
 use Rattle.forest.specs.Lookups.{Step}
 use Rattle.forest.proofs.Descending.{root_none, root-some}
 use Rattle.forest.proofs.longest.Goals as goal

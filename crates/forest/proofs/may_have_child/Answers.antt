@@ -1,6 +1,5 @@
 -- By the contract of the marks of one bit. Assumes nothing.
 use native.Mathlib.Omega.{arith}
-use borrow.Author.Rules.{rules}
 use Rattle.forest.specs.Words.{child_key}
 use Rattle.forest.proofs.may_have_child.Goals as goal
 

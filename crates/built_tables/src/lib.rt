@@ -3,6 +3,8 @@
 // below them. `dictionary_of` is a function of the file alone, which is what makes `num_tokens`, `token_len` and
 // decoding right over any tables in form. The definitions of the interval tables stand here too, so that the interval
 // count does not wait for preparation.
+#![tactic(auto)]
+
 ghost use Rattle.std.specs.Prelude.{◌≡◌};
 ghost use Rattle.marks.specs.Layout.{area_size};
 

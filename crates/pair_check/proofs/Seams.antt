@@ -8,7 +8,7 @@ use native.Mathlib.Omega.{arith}
 use lib.ListN.{length, length-append, get_or, get_or-append}
 use lib.Seq.{get_or-append-add}
 use Rattle.theory.specs.Dictionary.{Dictionary}
-use Rattle.theory.specs.PairCheck.{Turn, stop, undo_left, undo_right, turn, listed_below, walk, passes}
+use Rattle.theory.specs.PairCheck.{Turn, stop, undo_left, undo_right, turn, listed_below, walk}
 use Rattle.theory.proofs.Lists.{true-false}
 use Rattle.theory.proofs.Stage.{listed-is}
 use Rattle.theory.proofs.PairCheck.{Turned, turned}

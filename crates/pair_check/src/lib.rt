@@ -2,6 +2,8 @@
 // are known, so that the check holds in the middle of a build too. Two codes whose seam no row has pass at once:
 // undoing keeps the two bytes at the seam, so a join on the way would have it. The row that the search area names for
 // two codes is asked whether they are its parts, so that a wrong name costs time and no answer depends on it.
+#![tactic(auto)]
+
 ghost use Rattle.std.specs.Prelude.{◌≡◌, ◌≤◌, ◌<◌, length, ltb, eqb, ◌||◌};
 ghost use Rattle.marks.specs.Layout.{seams, area_size};
 ghost use Rattle.marks.specs.Marks.{marked};

@@ -1,4 +1,6 @@
 // The search area and the prefixes are filled.
+#![tactic(auto)]
+
 ghost use Rattle.std.specs.Prelude.{◌≡◌, ℕ, ◌+◌, ◌*◌, ◌<◌, ◌≤◌, length};
 ghost use Rattle.marks.specs.Layout.{area_size};
 ghost use Rattle.placed_rows.specs.Rows.{row, Placed};

@@ -29,7 +29,7 @@ fn typed_count(
     counts: &mut [u32],
 ) -> usize
     ensures { TypedCount (lent file places lefts rights prefixes area)
-        (before text) (before counts) (after counts) result }
+        text.now counts.old counts.new result }
 {
     let typed = typing::type_text(
         Side::Append,
@@ -63,7 +63,7 @@ pub fn sender_against_counters(
     counts: &mut [u32],
 ) -> Agreement
     ensures { Agrees (lent file places lefts rights prefixes area)
-        (before text) (before out) (before work) (before counts) (after out) (after work) (after counts) result }
+        text.now out.old work.old counts.old out.new work.new counts.new result }
 {
     let sending = byte_pair_encoding::encode_via_backtracking(
         file, places, lefts, rights, prefixes, area, text, out, work,

@@ -10,7 +10,7 @@ use Rattle.theory.specs.Merge.{encode}
 use Rattle.built_tables.specs.Built.{Built, dictionary_of}
 use Rattle.backtrack_encoder.specs.Answers.{OutputReady, Backtracked, EncodedInto}
 use Rattle.backtrack_encoder.proofs.Running.{codes-count}
-use Rattle.tables.specs.Tables.{Tables, tables}
+use Rattle.tables.specs.Tables.{Tables}
 
 -- the first i codes stand at the front of what was `entry`
 pub record Copied (codes entry : List ℕ) (count i : ℕ) (out : List ℕ) : Type 0 where

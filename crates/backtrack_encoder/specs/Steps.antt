@@ -2,7 +2,6 @@
 -- definition's state.
 use Rattle.std.specs.Prelude.{◌≡◌, List, ◌∷◌, ◌⊎◌, Bool, true, false, not, ◌&&◌, ℕ, suc, ◌+◌, ◌≤◌, ◌<◌, length, drop, eqb}
 use Rattle.std.proofs.Math.Option.{Option, some}
-use Rattle.std.proofs.Math.Option as Option
 use Rattle.theory.specs.Dictionary.{none}
 use Rattle.theory.specs.Backtracking.{State, place, follows, first_fit, take_back, add, start, run}
 use Rattle.bitfield.specs.Bits.{is_set, all_set}

@@ -1,6 +1,8 @@
 // Sending and counting by backtracking: the source's backtrack_encoder.rs, and the functions of byte_pair_encoding.rs
 // that run it. The codes stand in the work buffer while they change and are copied to the output at the end, since
 // document 01 wants output beyond the answer unchanged.
+#![tactic(auto)]
+
 ghost use Rattle.std.specs.Prelude.{◌≡◌, ◌++◌, ◌<◌, ◌≤◌, length, take, drop};
 ghost use Rattle.marks.specs.Layout.{area_size};
 ghost use Rattle.tables.specs.Tables.{given, lent, pair_lent, before, after};
@@ -16,7 +18,7 @@ use search_area::next_match;
 
 // The number of codes so far, the place that they reach, and the next row to try, NONE where nothing is left to try.
 // The codes stand at the front of a lent work buffer. The places that are not dead are the set bits of 65 words.
-#[derive(Drop)]
+#[derive(Clone, Copy)]
 pub struct BacktrackEncoder {
     pub count: usize,
     pub pos: usize,
@@ -40,8 +42,8 @@ fn fits(
     requires rows_ready { RowsReady file.now places.now area.now n text.now work.now × PartsReady file.now
         lefts.now rights.now n }
     requires encoder_ready { EncoderReady file.now n text.now encoder work.now × (token < n) }
-    ensures { FitsIs (pair_lent file places lefts rights area) n (before text) encoder (before work)
-        (before alive) token result }
+    ensures { FitsIs (pair_lent file places lefts rights area) n text.now encoder work.now
+        alive.now token result }
 {
     let end = encoder.pos + length_of(file, places, n, wide(token));
     if text.len() < end {
@@ -75,7 +77,7 @@ fn first_fit(
     requires text_ready { TextReady (given file places lefts rights prefixes area) n text.now work.now }
     requires encoder_ready { EncoderReady file.now n text.now encoder work.now }
     ensures { FirstFitIs (lent file places lefts rights prefixes area)
-        n (before text) encoder (before work) (before alive) result }
+        n text.now encoder work.now alive.now result }
 {
     let mut token = encoder.next;
     while token != NONE {
@@ -182,7 +184,7 @@ pub fn step(
     requires text_ready { TextReady (given file places lefts rights prefixes area) n text.now work.old }
     requires encoder_ready { EncoderReady file.now n text.now encoder work.old }
     ensures { Stepped (lent file places lefts rights prefixes area)
-        n (before text) encoder (before work) (before alive) result (after work) (after alive) }
+        n text.now encoder work.old alive.old result work.new alive.new }
 {
     if encoder.next == NONE {
         return encoder;
@@ -210,7 +212,7 @@ pub fn backtrack(
 ) -> usize
     requires { TextReady (given file places lefts rights prefixes area) n text.now work.old }
     ensures { Backtracked (lent file places lefts rights prefixes area)
-        n (before text) (before work) result (after work) }
+        n text.now work.old result work.new }
 {
     let mut alive = all_set();
     let mut encoder = start(file, places, area, n, text);
@@ -254,7 +256,7 @@ pub fn encode_via_backtracking_core(
 ) -> usize
     requires { OutputReady (given file places lefts rights prefixes area) n text.now out.old work.old }
     ensures { EncodedInto (lent file places lefts rights prefixes area)
-        n (before text) (before out) (before work) result (after out) (after work) }
+        n text.now out.old work.old result out.new work.new }
 {
     let count = backtrack(file, places, lefts, rights, prefixes, area, n, text, work);
     copy_codes(work, count, out);
@@ -275,7 +277,7 @@ pub fn count_core(
 ) -> usize
     requires { TextReady (given file places lefts rights prefixes area) n text.now work.old }
     ensures { CountIs (lent file places lefts rights prefixes area)
-        n (before text) (before work) result (after work) }
+        n text.now work.old result work.new }
 {
     backtrack(file, places, lefts, rights, prefixes, area, n, text, work)
 }

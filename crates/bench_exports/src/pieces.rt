@@ -26,8 +26,8 @@ fn piece_number(
     requires { CoreReady (given file places lefts rights prefixes area)
         n text.now last_codes.now numbers.now ends.now depths.now from to work.old }
     ensures { PieceCounted (lent file places lefts rights prefixes area)
-        n (before text) (before last_codes) (before numbers) (before ends) (before depths) from to (before work) result
-        (after work) }
+        n text.now last_codes.now numbers.now ends.now depths.now from to work.old result
+        work.new }
 {
     let count = interval_count::count_core(
         file, places, lefts, rights, prefixes, area, n, text, last_codes, numbers, ends, depths,
@@ -60,8 +60,8 @@ pub extern "C" fn measured_pieces(
         n text.now last_codes.now numbers.now ends.now depths.now froms.now tos.now work.old
         out.old }
     ensures { Pieces (lent file places lefts rights prefixes area)
-        n (before text) (before last_codes) (before numbers) (before ends) (before depths) (before froms)
-        (before tos) (before out) (after out) }
+        n text.now last_codes.now numbers.now ends.now depths.now froms.now
+        tos.now out.old out.new }
 {
     let mut i = 0;
     while i < froms.len() {

@@ -23,8 +23,8 @@ pub extern "C" fn measured_extend(
     counts: &mut [u32; 4096],
 ) -> u64
     ensures { Answers (λ (a : Answer). ExtendedColumns (lent file places lefts rights prefixes area)
-        (side_of (side_numbered side)) 0 4096 (before bytes) (before codes) (before counts) (before typed) a
-        (after bytes) (after codes) (after counts)) result }
+        (side_of (side_numbered side)) 0 4096 bytes.old codes.old counts.old typed.now a
+        bytes.new codes.new counts.new) result }
 {
     let answer = typing_columns::extend_columns(
         side_numbered(side),

@@ -68,7 +68,7 @@ fn checked(
     work: &[u32],
 ) -> Check
     ensures { result ≡ checked_of (send_refusal (lent file places lefts rights prefixes area)
-        (before text) (before out) (before work)) (length (rows (before file))) }
+        text.now out.now work.now) (length (rows file.now)) }
 {
     if 4096 < text.len() {
         return Check::Refused(Cause::TooLong);
@@ -99,7 +99,7 @@ fn encode_core(
     requires { checked_of (send_refusal (given file places lefts rights prefixes area) text.now out.old work.old)
         (length (rows file.now)) ≡ Rows n }
     ensures { Sends (method_of encoder) (lent file places lefts rights prefixes area)
-        (before text) (before out) (before work) (after out) (after work) (Number result) }
+        text.now out.old work.old out.new work.new (Number result) }
 {
     match encoder {
         Encoder::Bitfield => encode_via_bitfield_core(
@@ -130,7 +130,7 @@ fn encode(
     work: &mut [u32],
 ) -> Answer
     ensures { Sends (method_of encoder) (lent file places lefts rights prefixes area)
-        (before text) (before out) (before work) (after out) (after work) result }
+        text.now out.old work.old out.new work.new result }
 {
     match checked(file, places, lefts, rights, prefixes, area, text, out, work) {
         Check::Rows(n) => {
@@ -156,7 +156,7 @@ pub fn encode_via_bitfield(
     work: &mut [u32],
 ) -> Answer
     ensures { Sends Merge.encode (lent file places lefts rights prefixes area)
-        (before text) (before out) (before work) (after out) (after work) result }
+        text.now out.old work.old out.new work.new result }
 {
     encode(
         Encoder::Bitfield,
@@ -185,7 +185,7 @@ pub fn encode_via_backtracking(
     work: &mut [u32],
 ) -> Answer
     ensures { Sends Merge.encode (lent file places lefts rights prefixes area)
-        (before text) (before out) (before work) (after out) (after work) result }
+        text.now out.old work.old out.new work.new result }
 {
     encode(
         Encoder::Backtracking,
@@ -214,7 +214,7 @@ pub fn encode_via_table(
     work: &mut [u32],
 ) -> Answer
     ensures { Sends Merge.encode (lent file places lefts rights prefixes area)
-        (before text) (before out) (before work) (after out) (after work) result }
+        text.now out.old work.old out.new work.new result }
 {
     encode(
         Encoder::Table,
@@ -244,7 +244,7 @@ pub fn encode_minimal(
     work: &mut [u32],
 ) -> Answer
     ensures { Sends shortest (lent file places lefts rights prefixes area)
-        (before text) (before out) (before work) (after out) (after work) result }
+        text.now out.old work.old out.new work.new result }
 {
     encode(
         Encoder::Minimal,
@@ -274,7 +274,7 @@ pub fn encode_greedy(
     work: &mut [u32],
 ) -> Answer
     ensures { Sends greedy (lent file places lefts rights prefixes area)
-        (before text) (before out) (before work) (after out) (after work) result }
+        text.now out.old work.old out.new work.new result }
 {
     encode(
         Encoder::Greedy,
@@ -302,7 +302,7 @@ pub fn count(
     work: &mut [u32],
 ) -> Answer
     ensures { Counts (lent file places lefts rights prefixes area)
-        (before text) (before work) (after work) result }
+        text.now work.old work.new result }
 {
     match checked(
         file, places, lefts, rights, prefixes, area, text, work, work,
@@ -328,7 +328,7 @@ pub fn count_till_limit(
     work: &mut [u32],
 ) -> LimitAnswer
     ensures { CountsTillLimit (lent file places lefts rights prefixes area)
-        (before text) limit (before work) (after work) result }
+        text.now limit work.old work.new result }
 {
     match checked(
         file, places, lefts, rights, prefixes, area, text, work, work,

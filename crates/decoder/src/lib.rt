@@ -106,7 +106,7 @@ pub fn decode_tokens(
     out: &mut [u8],
 ) -> Answer
     ensures { Decodes (lent file places lefts rights prefixes area)
-        (before tokens) (before out) (after out) result }
+        tokens.now out.old out.new result }
 {
     if 4096 < tokens.len() {
         return Answer::Refused(Cause::TooLong);
@@ -137,7 +137,7 @@ pub fn token_bytes(
     token: u32,
     out: &mut [u8],
 ) -> Answer
-    ensures { Decodes (lent file places lefts rights prefixes area) (token ∷ []) (before out) (after out) result }
+    ensures { Decodes (lent file places lefts rights prefixes area) (token ∷ []) out.old out.new result }
 {
     let tokens = [token];
     decode_tokens(file, places, lefts, rights, prefixes, area, &tokens, out)

@@ -82,8 +82,8 @@ fn fill_rows(
     n: usize,
 ) -> usize
     requires { RowsFit file.now places.old prefixes.old area.old n }
-    ensures { RowsFilled (before file) factor n (before places) (before prefixes) (before area)
-        (after places) (after prefixes) (after area) result }
+    ensures { RowsFilled file.now factor n places.old prefixes.old area.old
+        places.new prefixes.new area.new result }
 {
     phrase_file::fill_places(file, places);
     let lowest = clashes::first_shared(file, places, n, factor, area);
@@ -100,7 +100,7 @@ fn clash_cause(file: &[u8], places: &[u32], n: usize, shared: usize, area: &mut 
     requires placed { Placed file.now places.now n }
     requires in_bounds { 16384 ≤ length area.old }
     requires shared_lt_n { shared < n }
-    ensures { ClashTold (before file) (before places) n shared (before area) (after area) result }
+    ensures { ClashTold file.now places.now n shared area.old area.new result }
 {
     let equal = clashes::first_equal(file, places, n, area);
     if equal < n {

@@ -2,6 +2,8 @@
 // typed at its end, the first code where they are typed at its front. From the byte's own row on, rows are joined as
 // the merge procedure joins them; no text is searched for rows. `FirstJoin` of `theory` is the definition. The side is
 // a bool here and an enum in `typing_columns`: one enum for both would move proofs of both for no promise.
+#![tactic(auto)]
+
 ghost use Rattle.std.specs.Prelude.{◌≡◌, ◌-◌, ◌<◌, length};
 ghost use Rattle.theory.proofs.Spine.{or_else};
 ghost use Rattle.built_tables.specs.Built.{dictionary_of};
@@ -122,7 +124,7 @@ pub fn end_code_at(
     append: bool,
 ) -> u32
     requires { CodeReady (pair_given file places lefts rights area) n bytes.now i codes.now }
-    ensures { CodeIs (pair_lent file places lefts rights area) append n (before bytes) i (before codes) result }
+    ensures { CodeIs (pair_lent file places lefts rights area) append n bytes.now i codes.now result }
 {
     let mut code = byte_row(file, places, area, n, bytes, i);
     let mut at = i;

@@ -133,8 +133,8 @@ fn count_piece(
     requires { PieceReady (given file places lefts rights prefixes area)
         n piece.now last_codes.now numbers.now ends.now depths.now from to work.old }
     ensures { PieceCounts (lent file places lefts rights prefixes area)
-        n (before piece) (before last_codes) (before numbers) (before ends) (before depths) from to (before work)
-        result (after work) }
+        n piece.now last_codes.now numbers.now ends.now depths.now from to work.old
+        result work.new }
 {
     let mut alive = all_set();
     let mut encoder = backtrack_encoder::start(file, places, area, n, piece);
@@ -175,8 +175,8 @@ pub fn count_core(
     requires { CoreReady (given file places lefts rights prefixes area)
         n text.now last_codes.now numbers.now ends.now depths.now start end work.old }
     ensures { CoreCounts (lent file places lefts rights prefixes area)
-        n (before text) (before last_codes) (before numbers) (before ends) (before depths) start end (before work)
-        result (after work) }
+        n text.now last_codes.now numbers.now ends.now depths.now start end work.old
+        result work.new }
 {
     count_piece(
         file,
@@ -216,8 +216,8 @@ pub fn count(
     work: &mut [u32],
 ) -> Answer
     ensures { Counts (lent file places lefts rights prefixes area)
-        (before text) (before last_codes) (before numbers) (before ends) (before depths) start end (before work)
-        (after work) result }
+        text.now last_codes.now numbers.now ends.now depths.now start end work.old
+        work.new result }
 {
     if 4096 < text.len() {
         return Answer::Refused(Cause::TooLong);

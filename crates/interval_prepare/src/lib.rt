@@ -126,9 +126,9 @@ pub fn prepare_core(
 )
     requires { CoreReady (pair_given file places lefts rights area) n text.now last_codes.old numbers.old
         ends.old depths.old work.old }
-    ensures { CorePrepares (pair_lent file places lefts rights area) n (before text) (before last_codes)
-        (before numbers) (before ends) (before depths) (before work) (after last_codes) (after numbers)
-        (after ends) (after depths) (after work) }
+    ensures { CorePrepares (pair_lent file places lefts rights area) n text.now last_codes.old
+        numbers.old ends.old depths.old work.old last_codes.new numbers.new
+        ends.new depths.new work.new }
 {
     let m = text.len();
     encode_all_prefixes(file, places, lefts, rights, area, n, text, last_codes);
@@ -179,8 +179,8 @@ pub fn prepare(
     work: &mut [u32],
 ) -> Answer
     ensures { Prepares (lent file places lefts rights prefixes area)
-        (before text) (before last_codes) (before numbers) (before ends) (before depths) (before work)
-        (after last_codes) (after numbers) (after ends) (after depths) (after work) result }
+        text.now last_codes.old numbers.old ends.old depths.old work.old
+        last_codes.new numbers.new ends.new depths.new work.new result }
 {
     if 4096 < text.len() {
         return Answer::Refused(Cause::TooLong);

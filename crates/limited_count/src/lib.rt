@@ -38,7 +38,7 @@ fn within(count: usize, limit: u64) -> Limited
 // Whether text is left at a place and no row has the seam there: then the codes up to it stay.
 fn codes_stay(area: &[u32], text: &[u8], pos: usize) -> bool
     requires { area_size ≤ length area.now }
-    ensures { result ≡ stays_at (before area) (before text) pos }
+    ensures { result ≡ stays_at area.now text.now pos }
 {
     if text.len() <= pos {
         return false;
@@ -53,7 +53,7 @@ fn codes_stay(area: &[u32], text: &[u8], pos: usize) -> bool
 // text without such a place costs no more than its steps.
 fn stay_now(area: &[u32], text: &[u8], pos: usize, asked: usize) -> bool
     requires { area_size ≤ length area.now }
-    ensures { StaysIf (before area) (before text) pos result }
+    ensures { StaysIf area.now text.now pos result }
 {
     if 64 < asked {
         if asked % 8 != 0 {
@@ -84,7 +84,7 @@ fn have_many_codes(
     limit: u64,
 ) -> bool
     requires { ManyReady (pair_given file places lefts rights area) n text.now }
-    ensures { ManyIs (pair_lent file places lefts rights area) n (before text) limit result }
+    ensures { ManyIs (pair_lent file places lefts rights area) n text.now limit result }
 {
     let mut codes = [0u32; 512];
     let mut counts = [0u32; 513];
@@ -119,7 +119,7 @@ fn is_over_ahead(
     limit: u64,
 ) -> bool
     requires { AheadReady (pair_given file places lefts rights area) n text.now encoder limit }
-    ensures { OverIs (pair_lent file places lefts rights area) n (before text) limit result }
+    ensures { OverIs (pair_lent file places lefts rights area) n text.now limit result }
 {
     if limit + 40 < encoder.count as u64 {
         return false;
@@ -146,7 +146,7 @@ pub fn count_till_limit_core(
 ) -> Limited
     requires { TextReady (given file places lefts rights prefixes area) n text.now work.old }
     ensures { LimitedIs (lent file places lefts rights prefixes area)
-        n (before text) limit (before work) result (after work) }
+        n text.now limit work.old result work.new }
 {
     let mut alive = all_set();
     let mut encoder = start(file, places, area, n, text);

@@ -126,7 +126,7 @@ module _ (keys heads pool : List ℕ) (count place row : ℕ) (R : PushReady key
       let i : v ≡ get_or heads row 0 * 4096 + place = is ∙ ap (λ (r : ℕ). get_or heads r 0 * 4096 + place) e in
       rw e (record {
         is = refl;
-        longer = longer-more heads pool count R.queues row place v (R.row-Below s) R.room R.place_below i;
+        longer = longer-more heads pool count R.queues row place v (R.row_below s) R.room R.place_below i;
         few = omega arith;
-        fresh = λ z. queued-new heads pool count R.queues row place v (R.row-Below s) R.room R.place_below i;
+        fresh = λ z. queued-new heads pool count R.queues row place v (R.row_below s) R.room R.place_below i;
       })

@@ -5,6 +5,8 @@
 // queue, and an entry of `pool` is the next older entry times 4,096, and a place. Entry 0 ends a queue. A queue may
 // have places that are no longer right: each is asked again at its turn, so that no order of a queue has to be proved.
 // The codes stand in `work` while they change, since document 01 wants output beyond the answer unchanged.
+#![tactic(auto)]
+
 ghost use Rattle.std.specs.Prelude.{◌≡◌, ◌≤◌, ◌<◌, length, get_or};
 ghost use Rattle.bitfield.specs.Bits.{is_set};
 ghost use Rattle.merge_encoder.specs.Encoding.{RowsReady, JoinsReady, EncodeReady, Encoded};
@@ -151,8 +153,8 @@ fn renew(
 ) -> usize
     requires { RenewReady (pair_given file places lefts rights area) n len work.now keys.old heads.old
         pool.old count at next }
-    ensures { Renewed (pair_lent file places lefts rights area) n len (before work) (before keys)
-        (before heads) (before pool) count at next (after keys) (after heads) (after pool) result }
+    ensures { Renewed (pair_lent file places lefts rights area) n len work.now keys.old
+        heads.old pool.old count at next keys.new heads.new pool.new result }
 {
     if next == len {
         return push(keys, heads, pool, count, at, NONE);
@@ -180,8 +182,8 @@ fn fill_keys(
 ) -> usize
     requires { FillReady (pair_given file places lefts rights area) n len work.now keys.old heads.old
         pool.old }
-    ensures { FirstKeys (pair_lent file places lefts rights area) n len (before work) (after keys)
-        (after heads) (after pool) result }
+    ensures { FirstKeys (pair_lent file places lefts rights area) n len work.now keys.new
+        heads.new pool.new result }
 {
     let mut count = 1;
     let mut next = 1;
@@ -242,8 +244,8 @@ fn join_at(
     requires joins_ready { JoinsReady (pair_given file places lefts rights area) n }
     requires state { State (pair_given file places lefts rights area) n len words.old work.old keys.old heads.old
         pool.old count × Around (is_set words.old) keys.old n len row last at next after }
-    ensures { Turned (pair_lent file places lefts rights area) n len (before words) (before work)
-        (before keys) (before heads) (before pool) count row last at next words.new work.new
+    ensures { Turned (pair_lent file places lefts rights area) n len words.old work.old
+        keys.old heads.old pool.old count row last at next words.new work.new
         keys.new heads.new pool.new result }
 {
     work[at] = row;
@@ -281,9 +283,9 @@ fn join_run(
     requires joins_ready { JoinsReady (pair_given file places lefts rights area) n }
     requires state { State (pair_given file places lefts rights area) n len words.old work.old keys.old heads.old
         pool.old start × ((row < n) × (first < 4096)) }
-    ensures { Ran (pair_lent file places lefts rights area) n len (before words) (before work) (before keys)
-        (before heads) (before pool) start row first (after words) (after work) (after keys) (after heads)
-        (after pool) result }
+    ensures { Ran (pair_lent file places lefts rights area) n len words.old work.old keys.old
+        heads.old pool.old start row first words.new work.new keys.new heads.new
+        pool.new result }
 {
     let mut count = start;
     let mut at = first;
@@ -326,9 +328,9 @@ fn join_queue(
     requires joins_ready { JoinsReady (pair_given file places lefts rights area) n }
     requires state { State (pair_given file places lefts rights area) n len words.old work.old keys.old heads.old
         pool.old start × (row < n) }
-    ensures { RowJoined (pair_lent file places lefts rights area) n len (before words) (before work)
-        (before keys) (before heads) (before pool) row (after words) (after work) (after keys) (after heads)
-        (after pool) result }
+    ensures { RowJoined (pair_lent file places lefts rights area) n len words.old work.old
+        keys.old heads.old pool.old row words.new work.new keys.new heads.new
+        pool.new result }
 {
     let mut count = start;
     let queue = wide(row);
@@ -376,8 +378,8 @@ fn merge(
     requires joins_ready { JoinsReady (pair_given file places lefts rights area) n }
     requires state { State (pair_given file places lefts rights area) n len words.old work.old keys.old heads.old
         pool.old start × Waiting keys.old heads.old pool.old 0 }
-    ensures { Merged (pair_lent file places lefts rights area) n len (before words) (before work)
-        (after words) (after work) }
+    ensures { Merged (pair_lent file places lefts rights area) n len words.old work.old
+        words.new work.new }
 {
     let mut count = start;
     let mut row = 0;
@@ -422,8 +424,8 @@ pub fn encode_via_bitfield_core(
     work: &mut [u32],
 ) -> usize
     requires { EncodeReady (pair_given file places lefts rights area) n text.now out.old work.old }
-    ensures { Encoded (pair_lent file places lefts rights area) n (before text) (before out) (after out)
-        (before work) (after work) result }
+    ensures { Encoded (pair_lent file places lefts rights area) n text.now out.old out.new
+        work.old work.new result }
 {
     let len = text.len();
     let mut words = all_set();

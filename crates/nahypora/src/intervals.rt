@@ -26,8 +26,8 @@ pub extern "C" fn bpe_interval_prepare(
     work: &mut [u32],
 ) -> u64
     ensures { Packs answer_of (λ (a : Answer). Prepares (lent file places lefts rights prefixes area)
-        (before text) (before last_codes) (before numbers) (before ends) (before depths) (before work)
-        (after last_codes) (after numbers) (after ends) (after depths) (after work) a) result }
+        text.now last_codes.old numbers.old ends.old depths.old work.old
+        last_codes.new numbers.new ends.new depths.new work.new a) result }
 {
     pack_answer(interval_prepare::prepare(
         file, places, lefts, rights, prefixes, area, text, last_codes, numbers, ends, depths, work,
@@ -54,8 +54,8 @@ pub extern "C" fn bpe_interval_count(
     work: &mut [u32],
 ) -> u64
     ensures { Packs answer_of (λ (a : Answer). Counts (lent file places lefts rights prefixes area)
-        (before text) (before last_codes) (before numbers) (before ends) (before depths) start end (before work)
-        (after work) a) result }
+        text.now last_codes.now numbers.now ends.now depths.now start end work.old
+        work.new a) result }
 {
     pack_answer(interval_count::count(
         file, places, lefts, rights, prefixes, area, text, last_codes, numbers, ends, depths,

@@ -150,7 +150,7 @@ pub extern "C" fn bpe_encode_via_bitfield(
     work: &mut [u32],
 ) -> u64
     ensures { Packs answer_of (λ (a : Answer). Sends encode (lent file places lefts rights prefixes area)
-        (before text) (before out) (before work) (after out) (after work) a) result }
+        text.now out.old work.old out.new work.new a) result }
 {
     pack_answer(byte_pair_encoding::encode_via_bitfield(
         file, places, lefts, rights, prefixes, area, text, out, work,
@@ -170,7 +170,7 @@ pub extern "C" fn bpe_encode_via_backtracking(
     work: &mut [u32],
 ) -> u64
     ensures { Packs answer_of (λ (a : Answer). Sends encode (lent file places lefts rights prefixes area)
-        (before text) (before out) (before work) (after out) (after work) a) result }
+        text.now out.old work.old out.new work.new a) result }
 {
     pack_answer(byte_pair_encoding::encode_via_backtracking(
         file, places, lefts, rights, prefixes, area, text, out, work,
@@ -190,7 +190,7 @@ pub extern "C" fn bpe_encode_via_table(
     work: &mut [u32],
 ) -> u64
     ensures { Packs answer_of (λ (a : Answer). Sends encode (lent file places lefts rights prefixes area)
-        (before text) (before out) (before work) (after out) (after work) a) result }
+        text.now out.old work.old out.new work.new a) result }
 {
     pack_answer(byte_pair_encoding::encode_via_table(
         file, places, lefts, rights, prefixes, area, text, out, work,
@@ -210,7 +210,7 @@ pub extern "C" fn bpe_encode_minimal(
     work: &mut [u32],
 ) -> u64
     ensures { Packs answer_of (λ (a : Answer). Sends shortest (lent file places lefts rights prefixes area)
-        (before text) (before out) (before work) (after out) (after work) a) result }
+        text.now out.old work.old out.new work.new a) result }
 {
     pack_answer(byte_pair_encoding::encode_minimal(
         file, places, lefts, rights, prefixes, area, text, out, work,
@@ -230,7 +230,7 @@ pub extern "C" fn bpe_encode_greedy(
     work: &mut [u32],
 ) -> u64
     ensures { Packs answer_of (λ (a : Answer). Sends greedy (lent file places lefts rights prefixes area)
-        (before text) (before out) (before work) (after out) (after work) a) result }
+        text.now out.old work.old out.new work.new a) result }
 {
     pack_answer(byte_pair_encoding::encode_greedy(
         file, places, lefts, rights, prefixes, area, text, out, work,
@@ -249,7 +249,7 @@ pub extern "C" fn bpe_count(
     work: &mut [u32],
 ) -> u64
     ensures { Packs answer_of (λ (a : Answer). Counts (lent file places lefts rights prefixes area)
-        (before text) (before work) (after work) a) result }
+        text.now work.old work.new a) result }
 {
     pack_answer(byte_pair_encoding::count(file, places, lefts, rights, prefixes, area, text, work))
 }
@@ -267,7 +267,7 @@ pub extern "C" fn bpe_count_till_limit(
     work: &mut [u32],
 ) -> u64
     ensures { Packs limit_answer_of (λ (a : LimitAnswer). CountsTillLimit
-        (lent file places lefts rights prefixes area) (before text) limit (before work) (after work) a) result }
+        (lent file places lefts rights prefixes area) text.now limit work.old work.new a) result }
 {
     pack_limit_answer(byte_pair_encoding::count_till_limit(
         file, places, lefts, rights, prefixes, area, text, limit, work,
@@ -286,7 +286,7 @@ pub extern "C" fn bpe_decode_tokens(
     out: &mut [u8],
 ) -> u64
     ensures { Packs answer_of (λ (a : Answer). Decodes (lent file places lefts rights prefixes area)
-        (before tokens) (before out) (after out) a) result }
+        tokens.now out.old out.new a) result }
 {
     pack_answer(decoder::decode_tokens(file, places, lefts, rights, prefixes, area, tokens, out))
 }
@@ -303,7 +303,7 @@ pub extern "C" fn bpe_token_bytes(
     out: &mut [u8],
 ) -> u64
     ensures { Packs answer_of (λ (a : Answer). Decodes (lent file places lefts rights prefixes area)
-        (token ∷ []) (before out) (after out) a) result }
+        (token ∷ []) out.old out.new a) result }
 {
     pack_answer(decoder::token_bytes(file, places, lefts, rights, prefixes, area, token, out))
 }

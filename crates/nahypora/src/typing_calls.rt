@@ -28,8 +28,8 @@ pub extern "C" fn bpe_push(
     states: &mut [State],
 ) -> u64
     ensures { Packs answer_of (λ (a : Answer). Extended (lent file places lefts rights prefixes area)
-        (side_of (side_numbered side)) head.old.len (before states) (byte ∷ []) a head.new.len
-        (after states)) result }
+        (side_of (side_numbered side)) head.old.len states.old (byte ∷ []) a head.new.len
+        states.new) result }
 {
     let answer = typing::push(
         side_numbered(side),
@@ -61,8 +61,8 @@ pub extern "C" fn bpe_extend(
     states: &mut [State],
 ) -> u64
     ensures { Packs answer_of (λ (a : Answer). Extended (lent file places lefts rights prefixes area)
-        (side_of (side_numbered side)) head.old.len (before states) (before bytes) a
-        head.new.len (after states)) result }
+        (side_of (side_numbered side)) head.old.len states.old bytes.now a
+        head.new.len states.new) result }
 {
     let answer = typing::extend(
         side_numbered(side),
@@ -103,7 +103,7 @@ pub extern "C" fn bpe_token_count(
     states: &[State],
 ) -> u64
     ensures { Packs answer_of (λ (a : Answer). TokenCounted (lent file places lefts rights prefixes area)
-        (side_of (side_numbered side)) head.now.len (before states) a) result }
+        (side_of (side_numbered side)) head.now.len states.now a) result }
 {
     let answer = typing::token_count(
         side_numbered(side),

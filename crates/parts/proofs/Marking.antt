@@ -121,10 +121,10 @@ module _ (file places area : List ℕ) (n w l x : ℕ) (F : SeamFit file places 
   -- the bytes s of row w, and the length m of row l, as they are read
   module _ (h : x < w) (s : List ℕ) (m : ℕ) (e : s ≡ row file places n w) (S : Small (length (row file places n x)) 256 m) where
     bytes_read : s ≡ get_or (rows file) w []
-    bytes_read = e ∙ F.places_ready.rows_are w F.row-Below
+    bytes_read = e ∙ F.places_ready.rows_are w F.row_below
 
     low : l < n
-    low = omega (arith, F.row-Below)
+    low = omega (arith, F.row_below)
 
     length-read : m ≡ length (get_or (rows file) l [])
     length-read = S.is ∙ ap (λ (c : ℕ). length (row file places n c)) W ∙ ap length (F.places_ready.rows_are l low)

@@ -1,7 +1,6 @@
 -- The parts of the rows of a phrase file, as build finds them over its tables.
 use Rattle.std.specs.Prelude.{◌≡◌, ◌⊎◌, List, [], ◌++◌, Bool, true, false, ℕ, ◌≤◌, ◌<◌, length, get_or, drop}
 use Rattle.std.proofs.Math.Option.{Option, some}
-use Rattle.std.proofs.Math.Option as Option
 use Rattle.marks.specs.Layout.{area_size}
 use Rattle.theory.specs.Parts.{Parts, rest_of, are_parts_of, parts_of, parts_below}
 use Rattle.phrase_file.specs.Form.{rows}

@@ -1,6 +1,8 @@
 // The fewest codes of a text, and the longest row at each place: the cores of `encode_minimal` and `encode_greedy`. An
 // entry of the work buffer has the count of codes, 64 minus the row's length and the row, in this order, so that the
 // least entry of a place is the one that document 01 wants of a tie.
+#![tactic(auto)]
+
 ghost use Rattle.std.specs.Prelude.{◌≡◌, ℕ, ◌≤◌, ◌<◌, min, length, drop};
 ghost use Rattle.marks.specs.Layout.{area_size};
 ghost use Rattle.placed_rows.specs.Rows.{Placed};

@@ -17,8 +17,8 @@ pub fn encode_all_prefixes(
     table: &mut [u32],
 )
     requires { PrefixesReady (pair_given file places lefts rights area) n text.now table.old }
-    ensures { PrefixesAre (pair_lent file places lefts rights area) n (before text) (before table)
-        (after table) }
+    ensures { PrefixesAre (pair_lent file places lefts rights area) n text.now table.old
+        table.new }
 {
     let mut i = 0;
     while i < text.len() {
@@ -81,8 +81,8 @@ pub fn encode_via_table_core(
     work: &mut [u32],
 ) -> usize
     requires { TableReady (pair_given file places lefts rights area) n text.now out.old work.old }
-    ensures { TableCodes (pair_lent file places lefts rights area) n (before text) (before out) (before work)
-        (after out) (after work) result }
+    ensures { TableCodes (pair_lent file places lefts rights area) n text.now out.old work.old
+        out.new work.new result }
 {
     let m = text.len();
     encode_all_prefixes(file, places, lefts, rights, area, n, text, work);

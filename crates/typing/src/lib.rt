@@ -178,7 +178,7 @@ pub fn token_count(
     states: &[State],
 ) -> Answer
     ensures { TokenCounted (lent file places lefts rights prefixes area)
-        (side_of side) head.now.len (before states) result }
+        (side_of side) head.now.len states.now result }
 {
     let h = *head;
     let len = length_of_head(h);
@@ -212,8 +212,8 @@ pub fn extend(
     typed: &[u8],
 ) -> Answer
     ensures { Extended (lent file places lefts rights prefixes area)
-        (side_of side) head.old.len (before states) (before typed) result head.new.len
-        (after states) }
+        (side_of side) head.old.len states.old typed.now result head.new.len
+        states.new }
 {
     let h = *head;
     let len = length_of_head(h);
@@ -263,7 +263,7 @@ pub fn push(
     byte: u8,
 ) -> Answer
     ensures { Extended (lent file places lefts rights prefixes area)
-        (side_of side) head.old.len (before states) (byte ∷ []) result head.new.len (after states) }
+        (side_of side) head.old.len states.old (byte ∷ []) result head.new.len states.new }
 {
     let typed: [u8; 1] = [byte];
     extend(
@@ -296,7 +296,7 @@ pub fn type_text(
     counts: &mut [u32],
 ) -> usize
     ensures { TextTyped (lent file places lefts rights prefixes area)
-        (side_of side) (before text) (before counts) result (after counts) }
+        (side_of side) text.now counts.old result counts.new }
 {
     let mut states: [State; 4096] = [state_from(0, 0, 0); 4096];
     let mut head = head_with(0);

@@ -125,7 +125,7 @@ fn follows(
     code: u32,
 ) -> bool
     requires { FollowsReady (pair_given file places lefts rights area) n codes.now i code }
-    ensures { FollowsIs (pair_lent file places lefts rights area) (side_of side) n (before codes) i code result }
+    ensures { FollowsIs (pair_lent file places lefts rights area) (side_of side) n codes.now i code result }
 {
     let len = row_len(file, places, n, code);
     if i < len {
@@ -164,8 +164,8 @@ fn record_in_form(
 ) -> bool
     requires { RecordReady (pair_given file places lefts rights area) n bytes.now reading.now codes.now
         counts.now i }
-    ensures { RecordIs (pair_lent file places lefts rights area) (side_of side) n (before bytes) (before codes)
-        (before counts) i result }
+    ensures { RecordIs (pair_lent file places lefts rights area) (side_of side) n bytes.now codes.now
+        counts.now i result }
 {
     let code = codes[i];
     if n <= wide(code) {
@@ -197,8 +197,8 @@ pub fn records_in_form(
 ) -> bool
     requires { RecordsReady (pair_given file places lefts rights area) n bytes.now reading.now codes.now
         counts.now len }
-    ensures { RecordsAre (pair_lent file places lefts rights area) (side_of side) n (before bytes)
-        (before codes) (before counts) len result }
+    ensures { RecordsAre (pair_lent file places lefts rights area) (side_of side) n bytes.now
+        codes.now counts.now len result }
 {
     let mut i = 0;
     while i < len {
@@ -227,7 +227,7 @@ fn code_at(
     codes: &[u32],
 ) -> u32
     requires { CodeReady (pair_given file places lefts rights area) n bytes.now i codes.now }
-    ensures { CodeIs (pair_lent file places lefts rights area) (side_of side) n (before bytes) i (before codes)
+    ensures { CodeIs (pair_lent file places lefts rights area) (side_of side) n bytes.now i codes.now
         result }
 {
     match side {
@@ -254,8 +254,8 @@ pub fn push_core(
     counts: &mut [u32],
 )
     requires { PushReady (pair_given file places lefts rights area) n i bytes.old codes.old counts.old }
-    ensures { Pushed (pair_lent file places lefts rights area) (side_of side) n i byte (before bytes)
-        (before codes) (before counts) (after bytes) (after codes) (after counts) }
+    ensures { Pushed (pair_lent file places lefts rights area) (side_of side) n i byte bytes.old
+        codes.old counts.old bytes.new codes.new counts.new }
 {
     bytes[i] = byte;
     let code = code_at(side, file, places, lefts, rights, area, n, bytes, i, codes);
@@ -280,8 +280,8 @@ pub fn extend_core(
 )
     requires { ExtendReady (pair_given file places lefts rights area) n len bytes.old codes.old counts.old
         typed.now }
-    ensures { ExtendedBy (pair_lent file places lefts rights area) (side_of side) n len (before bytes)
-        (before codes) (before counts) (before typed) (after bytes) (after codes) (after counts) }
+    ensures { ExtendedBy (pair_lent file places lefts rights area) (side_of side) n len bytes.old
+        codes.old counts.old typed.now bytes.new codes.new counts.new }
 {
     let mut k = 0;
     while k < typed.len() {
@@ -322,7 +322,7 @@ fn columns_in_form(
 ) -> Form
     requires { Sizes bytes.now codes.now counts.now reading.old }
     ensures { Checked (lent file places lefts rights prefixes area)
-        (side_of side) len size (before bytes) (before codes) (before counts) (after reading) result }
+        (side_of side) len size bytes.now codes.now counts.now reading.new result }
 {
     let Form::Rows(n) = tables::tables_in_form(file, places, lefts, rights, prefixes, area) else {
         return Form::Out;
@@ -359,8 +359,8 @@ pub fn extend_columns(
     typed: &[u8],
 ) -> Answer
     ensures { ExtendedColumns (lent file places lefts rights prefixes area)
-        (side_of side) len size (before bytes) (before codes) (before counts) (before typed) result (after bytes)
-        (after codes) (after counts) }
+        (side_of side) len size bytes.old codes.old counts.old typed.now result bytes.new
+        codes.new counts.new }
 {
     if 4096 < typed.len() {
         return Answer::Refused(Cause::TooLong);
@@ -412,7 +412,7 @@ pub fn count_columns(
     counts: &[u32; 4096],
 ) -> Answer
     ensures { CountedColumns (lent file places lefts rights prefixes area)
-        (side_of side) len size (before bytes) (before codes) (before counts) result }
+        (side_of side) len size bytes.now codes.now counts.now result }
 {
     let mut reading = [0u8; 4096];
     let Form::Rows(_) = columns_in_form(

@@ -28,14 +28,14 @@ use table_encoder::encode_via_table_core;
 use tables::Form;
 
 // The count of rows, or why a call is refused.
-#[derive(Drop)]
+#[derive(Clone, Copy)]
 enum Check {
     Rows(usize),
     Refused(Cause),
 }
 
 // The encoders of document 01.
-#[derive(Drop)]
+#[derive(Clone, Copy)]
 enum Encoder {
     Bitfield,
     Backtracking,

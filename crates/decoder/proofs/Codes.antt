@@ -8,7 +8,7 @@ use native.Mathlib.Omega.{arith}
 use lib.ListN.{length, get_or, drop}
 use lib.Seq.{drop-cons}
 use lib.Dec.{ltb}
-use borrow.Author.Tests.{lt-ltb, le-ltb, ltb-true, ltb-false}
+use borrow.Author.Tests.{ltb-true, ltb-false}
 use Rattle.theory.specs.Dictionary.{Dictionary, AllRows}
 use Rattle.causes.specs.Order.{first_unknown}
 use Rattle.causes.proofs.Unknown.{unknown-first, unknown-behind}

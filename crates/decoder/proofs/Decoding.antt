@@ -1,6 +1,6 @@
 -- The cases of decoding, and what holds where there is no refusal. Assumes nothing.
-use mathlib.Core.Path.{◌≡◌, refl, sym, ap, ap₂, ◌∙◌}
-use mathlib.Core.Option.{Option, none, some}
+use mathlib.Core.Path.{◌≡◌, refl, sym, ap, ◌∙◌}
+use mathlib.Core.Option.{none, some}
 use mathlib.Core.List.{List, [], ◌∷◌, ◌++◌, append-nil}
 use Prim.Native.Nat.{ℕ, ◌≤◌, ◌<◌}
 use native.Mathlib.Omega.{arith}
@@ -8,7 +8,6 @@ use lib.ListN.{length, get_or, drop}
 use borrow.Author.Tests.{lt-ltb, le-ltb}
 use Rattle.causes.specs.declared.Cause.{Cause}
 use Rattle.causes.specs.declared.Cause.TheVariants.{TooShort, OutOfForm, TooLong, UnknownCode}
-use Rattle.causes.specs.declared.Answer.{Answer}
 use Rattle.causes.specs.declared.Answer.TheVariants.{Number, Refused}
 use Rattle.causes.specs.Order.{first_unknown}
 use Rattle.causes.specs.Call.{to_number}
@@ -16,7 +15,6 @@ use Rattle.causes.proofs.Calls.{call-refused, call-given}
 use Rattle.phrase_file.specs.Form.{rows}
 use Rattle.theory.specs.Dictionary.{spell}
 use Rattle.tables.specs.Tables.{Tables}
-use Rattle.tables.specs.declared.Form.{Form}
 use Rattle.tables.specs.declared.Form.TheVariants.{Rows, Out}
 use Rattle.tables.specs.InForm.{form_of}
 use Rattle.tables.proofs.Readiness.{ready}

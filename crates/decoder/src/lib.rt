@@ -1,5 +1,7 @@
 // Decoding: the bytes that codes spell, as document 01's `decode_tokens` and `token_bytes` give them. `token_bytes` is
 // decoding the list of its one code, so that both have one contract.
+#![tactic(auto)]
+
 ghost use Rattle.std.specs.Prelude.{◌≡◌, [], ◌∷◌, ◌++◌, length, take, drop};
 ghost use Rattle.placed_rows.specs.Rows.{row};
 ghost use Rattle.placed_rows.specs.Texts.{Begins};

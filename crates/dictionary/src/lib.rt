@@ -1,10 +1,12 @@
 // Build: from the phrase file to the tables and the search area. What it stands on is split into small crates, because
 // a must-fail edit proves its whole crate again.
+#![tactic(auto)]
+
 ghost use Rattle.std.specs.Prelude.{◌≡◌, false, ◌<◌, ◌≤◌, length};
 ghost use Rattle.dictionary.specs.Build.{too_short, cleared, all_cleared, BuildIs};
 ghost use Rattle.dictionary.specs.Steps.{Buildable, RowsFit, RowsFilled, ClashTold, TablesFilled};
 ghost use Rattle.placed_rows.specs.Rows.{Placed};
-ghost use Rattle.tables.specs.Tables.{given, lent, left, before, after};
+ghost use Rattle.tables.specs.Tables.{tables, lent, lent_to_fill, left};
 
 use causes::{BuildAnswer, Cause};
 use marks::AREA;
@@ -59,9 +61,9 @@ fn clear_all(
     area: &mut [u32],
     n: usize,
 )
-    requires { too_short (given file places lefts rights prefixes area) n ≡ false }
+    requires { too_short (tables file.now places.old lefts.old rights.old prefixes.old area.old) n ≡ false }
     ensures { left file places lefts rights prefixes area ≡ all_cleared n
-        (lent file places lefts rights prefixes area) }
+        (lent_to_fill file places lefts rights prefixes area) }
 {
     clear(places, n);
     clear(lefts, n);
@@ -120,8 +122,8 @@ fn fill_tables(
     area: &mut [u32],
     n: usize,
 ) -> BuildAnswer
-    requires { Buildable factor (given file places lefts rights prefixes area) n }
-    ensures { TablesFilled factor n (lent file places lefts rights prefixes area)
+    requires { Buildable factor (tables file.now places.old lefts.old rights.old prefixes.old area.old) n }
+    ensures { TablesFilled factor n (lent_to_fill file places lefts rights prefixes area)
         (left file places lefts rights prefixes area) result }
 {
     let shared = fill_rows(file, factor, places, prefixes, area, n);
@@ -146,8 +148,8 @@ fn build_rows(
     area: &mut [u32],
     n: usize,
 ) -> BuildAnswer
-    requires { Buildable factor (given file places lefts rights prefixes area) n }
-    ensures { BuildIs factor (lent file places lefts rights prefixes area)
+    requires { Buildable factor (tables file.now places.old lefts.old rights.old prefixes.old area.old) n }
+    ensures { BuildIs factor (lent_to_fill file places lefts rights prefixes area)
         (left file places lefts rights prefixes area) result }
 {
     let answer = fill_tables(file, factor, places, lefts, rights, prefixes, area, n);
@@ -170,7 +172,7 @@ pub fn from_dictionary(
     prefixes: &mut [u32],
     area: &mut [u32],
 ) -> BuildAnswer
-    ensures { BuildIs factor (lent file places lefts rights prefixes area)
+    ensures { BuildIs factor (lent_to_fill file places lefts rights prefixes area)
         (left file places lefts rights prefixes area) result }
 {
     if factor == 0 {

@@ -1,6 +1,8 @@
 // The count of an interval of a prepared text: the second part of the source's interval_encoding.rs. Interval tables
 // that are too short are out of form here (8), since they are only read; in preparation, which is to fill them, they
 // are too short (7).
+#![tactic(auto)]
+
 ghost use Rattle.std.specs.Prelude.{◌≡◌, ◌-◌, length, get_or};
 ghost use Rattle.built_tables.specs.IntervalTables.{codes_in_form, tree_in_form, interval_in_form};
 ghost use Rattle.interval_count.specs.Steps.{MeetsReady, MeetsIs, BetweenReady, PieceReady, PieceCounts};

@@ -2,6 +2,8 @@
 // text. The codes are counted by backtracking. Two facts end it early, once the count has reached the limit: the codes
 // so far stay where no row has the seam of the bytes at their end; and every code list has a cut among 64 places in a
 // row, since no row is longer.
+#![tactic(auto)]
+
 ghost use Rattle.std.specs.Prelude.{◌≡◌, ◌≤◌, ◌<◌, length};
 ghost use Rattle.marks.specs.Layout.{area_size};
 ghost use Rattle.theory.specs.CountLimit.{final};
@@ -18,7 +20,7 @@ use pair_check::may_join;
 use placed_rows::NONE;
 
 // The answer of a count with a limit.
-#[derive(Drop)]
+#[derive(Clone, Copy)]
 pub enum Limited {
     Counted(usize),
     Over,

@@ -83,7 +83,7 @@ pub extern "C" fn bpe_from_dictionary(
     area: &mut [u32],
 ) -> u64
     ensures { Packs build_answer_of (λ (a : BuildAnswer). BuildIs factor
-        (lent file places lefts rights prefixes area) (left file places lefts rights prefixes area) a) result }
+        (lent_to_fill file places lefts rights prefixes area) (left file places lefts rights prefixes area) a) result }
 {
     let answer = dictionary::from_dictionary(file, factor, places, lefts, rights, prefixes, area);
     pack_build_answer(answer)

@@ -1,5 +1,7 @@
 // The last code of each prefix of a text, and the codes of the text walked from the end. The codes are counted before
 // they are written, since document 01 wants output beyond the answer unchanged.
+#![tactic(auto)]
+
 ghost use Rattle.std.specs.Prelude.{◌≡◌, ◌++◌, length, drop};
 ghost use Rattle.table_encoder.specs.LastCodes.{PrefixesReady, PrefixesAre};
 ghost use Rattle.table_encoder.specs.Walk.{walked, WalkReady, WriteReady, TableReady, TableCodes};

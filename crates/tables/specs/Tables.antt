@@ -1,6 +1,6 @@
 -- The dictionary tables that a call is lent, as one noun, and how a contract says them.
 use Rattle.std.specs.Prelude.{List, ℕ}
-use Rattle.std.specs.Borrow.{Bor}
+use Rattle.std.specs.Borrow.{Bor, MutBor}
 use denote.Triple.Both.{Both}
 
 -- "dictionary tables": a phrase file, its four tables and the search area, in the order of the calls' arguments
@@ -73,10 +73,19 @@ abbrev pub lent : (file places lefts rights prefixes area : Lent ℕ) → Tables
 lent file places lefts rights prefixes area =
     given file.entry places.entry lefts.entry rights.entry prefixes.entry area.entry
 
+-- a slice that is lent to be written, at the two moments of a call
+abbrev pub Filled : Type 0 → Type 0
+Filled A = Both (MutBor (List A)) (MutBor (List A))
+
+-- the tables that build is lent to fill, as it begins
+abbrev pub lent_to_fill : (file : Lent ℕ) (places lefts rights prefixes area : Filled ℕ) → Tables
+lent_to_fill file places lefts rights prefixes area =
+    tables file.entry.now places.entry.now lefts.entry.now rights.entry.now prefixes.entry.now area.entry.now
+
 -- the same tables as build leaves them; the file is only read
-abbrev pub left : (file places lefts rights prefixes area : Lent ℕ) → Tables
+abbrev pub left : (file : Lent ℕ) (places lefts rights prefixes area : Filled ℕ) → Tables
 left file places lefts rights prefixes area =
-    given file.entry places.exit lefts.exit rights.exit prefixes.exit area.exit
+    tables file.entry.now places.exit.now lefts.exit.now rights.exit.now prefixes.exit.now area.exit.now
 
 -- the same for the pair tables
 abbrev pub pair_given : (file places lefts rights area : Slice ℕ) → PairTables

@@ -18,7 +18,7 @@ use typing_columns::Side;
 // A typing record: a byte, the last code of the text up to it (in prepending the first code), and the number of its
 // codes.
 #[repr(C)]
-#[derive(Drop)]
+#[derive(Clone, Copy)]
 pub struct State {
     pub byte: u8,
     pub code: u32,
@@ -27,7 +27,7 @@ pub struct State {
 
 // The number of bytes typed.
 #[repr(C)]
-#[derive(Drop)]
+#[derive(Clone, Copy)]
 pub struct Head {
     pub len: usize,
 }

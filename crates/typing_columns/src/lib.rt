@@ -2,6 +2,8 @@
 // the order in which they were typed; in prepending the text is read from a fourth buffer, `reading`, in which they
 // stand from the end back. The direction is a parameter, and prepending the same definition over the reversed text, so
 // that one proof serves both. After a refusal the columns are scratch, since `typing` keeps the records whole.
+#![tactic(auto)]
+
 ghost use Rattle.std.specs.Prelude.{◌≡◌, length};
 ghost use Rattle.built_tables.specs.Built.{dictionary_of};
 ghost use Rattle.end_code.specs.Tables.{RowReady};
@@ -21,7 +23,7 @@ use placed_rows::wide;
 use tables::Form;
 
 // The direction of typing.
-#[derive(Drop)]
+#[derive(Clone, Copy)]
 pub enum Side {
     Append,
     Prepend,

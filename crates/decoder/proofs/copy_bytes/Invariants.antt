@@ -1,0 +1,10 @@
+-- `decoder::copy_bytes` meets its contract: each turn is one of `Copying`. Assumes nothing.
+use Prim.Native.Nat.{◌-◌}
+use Rattle.decoder.proofs.Copying.{Copying}
+use Rattle.decoder.proofs.copy_bytes.Given as goal
+
+abbrev pub invariant-loop-j : goal.invariant-loop-j
+invariant-loop-j l = Copying l.source l.count l.initial.out l.j l.out
+
+abbrev pub decreases-loop-j : goal.decreases-loop-j
+decreases-loop-j l = l.count - l.j

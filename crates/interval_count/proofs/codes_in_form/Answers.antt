@@ -1,9 +1,6 @@
 -- The loop's invariant: the first i last codes are below n. Assumes nothing.
-use Prim.Native.Nat.{◌-◌}
 use native.Mathlib.Omega.{arith}
-use lib.ListN.{length}
-use borrow.Author.Rules.{rules}
-use Rattle.interval_count.proofs.Forms.{Sweeping, codes-short, sweeping_start, sweeping_end, sweeping_fails, sweeping_more}
+use Rattle.interval_count.proofs.Forms.{codes-short, sweeping_start, sweeping_end, sweeping_fails, sweeping_more}
 use Rattle.interval_count.proofs.codes_in_form.Goals as goal
 
 pub returns-then-last_codes-text : goal.returns-then-last_codes-text

@@ -1,9 +1,7 @@
 -- The loop's invariant: the first i last codes are below n. Assumes nothing.
 use Prim.Native.Nat.{◌-◌}
-use native.Mathlib.Omega.{arith}
 use lib.ListN.{length}
-use borrow.Author.Rules.{rules}
-use Rattle.interval_count.proofs.Forms.{Sweeping, codes-short, sweeping_start, sweeping_end, sweeping_fails, sweeping_more}
+use Rattle.interval_count.proofs.Forms.{Sweeping}
 use Rattle.interval_count.proofs.codes_in_form.Given as goal
 
 abbrev pub invariant-loop-i : goal.invariant-loop-i

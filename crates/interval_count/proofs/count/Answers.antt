@@ -1,7 +1,6 @@
 -- The answers are the cases of the refusal. Assumes nothing.
 use mathlib.Core.Path.{sym, ◌∙◌}
 use borrow.Author.Tests.{not-true, not-false}
-use borrow.Author.Rules.{rules}
 use Rattle.interval_count.proofs.Answers.{refused-long, refused-short, refused_out, refused_interval, refused-order, refused_end, core_ready, counted}
 use Rattle.interval_count.proofs.count.Goals as goal
 

@@ -1,5 +1,4 @@
 -- The count of the interval is that of its piece. Assumes nothing.
-use borrow.Author.Rules.{rules}
 use Rattle.interval_count.proofs.Answers.{piece_ready, piece-counted}
 use Rattle.interval_count.proofs.count_core.Goals as goal
 

@@ -1,9 +1,7 @@
 -- Each turn is a step of `Counting`. The measure is the number of steps left. Assumes nothing.
 use mathlib.Core.Logic.{inl, inr}
 use native.Mathlib.Omega.{arith}
-use borrow.Author.Rules.{rules}
-use Rattle.interval_count.proofs.Counting.{Counting, counting-start, counting-step, meets-ready, between-ready, place-fits, sum_fits, counting-met, counting-end}
-use Rattle.tables.specs.Tables.{tables}
+use Rattle.interval_count.proofs.Counting.{counting-start, counting-step, meets-ready, between-ready, place-fits, sum_fits, counting-met, counting-end}
 use Rattle.interval_count.proofs.count_piece.Goals as goal
 
 pub start-encoder-requires : goal.start-encoder-requires

@@ -1,7 +1,6 @@
 -- The answers are the cases of the definition. Assumes nothing.
 use mathlib.Core.Path.{sym, ◌∙◌}
 use borrow.Author.Tests.{not-true, not-false}
-use borrow.Author.Rules.{rules}
 use Rattle.interval_count.proofs.Forms.{codes_out, numbers_out, ends_out, depths_decide}
 use Rattle.interval_count.proofs.interval_in_form.Goals as goal
 

@@ -1,5 +1,4 @@
 -- The tests are those of `Meets`. Assumes nothing.
-use borrow.Author.Rules.{rules}
 use Rattle.interval_count.proofs.Meeting.{not-met, met_if}
 use Rattle.interval_count.proofs.meets.Goals as goal
 

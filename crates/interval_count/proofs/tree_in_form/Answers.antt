@@ -1,9 +1,6 @@
 -- The loop's invariant: the first i entries fit. Assumes nothing.
-use Prim.Native.Nat.{◌-◌, ◌+◌}
 use native.Mathlib.Omega.{arith}
-use lib.ListN.{length}
-use borrow.Author.Rules.{rules}
-use Rattle.interval_count.proofs.Forms.{Fitting, tree_short, fitting_start, fitting_end, fitting_fails, fitting_more}
+use Rattle.interval_count.proofs.Forms.{tree_short, fitting_start, fitting_end, fitting_fails, fitting_more}
 use Rattle.interval_count.proofs.tree_in_form.Goals as goal
 
 pub returns-then-table-text : goal.returns-then-table-text

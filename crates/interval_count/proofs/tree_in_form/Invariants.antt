@@ -1,9 +1,7 @@
 -- The loop's invariant: the first i entries fit. Assumes nothing.
 use Prim.Native.Nat.{◌-◌, ◌+◌}
-use native.Mathlib.Omega.{arith}
 use lib.ListN.{length}
-use borrow.Author.Rules.{rules}
-use Rattle.interval_count.proofs.Forms.{Fitting, tree_short, fitting_start, fitting_end, fitting_fails, fitting_more}
+use Rattle.interval_count.proofs.Forms.{Fitting}
 use Rattle.interval_count.proofs.tree_in_form.Given as goal
 
 abbrev pub invariant-loop-i : goal.invariant-loop-i

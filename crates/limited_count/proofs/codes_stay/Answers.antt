@@ -1,6 +1,5 @@
 -- By the three cases of `stays_at` (proofs/Staying.antt). Assumes nothing.
 use Rattle.limited_count.proofs.Staying.{stays-end, stays-front, stays-seam}
-use borrow.Author.Rules.{rules}
 use Rattle.limited_count.proofs.codes_stay.Goals as goal
 
 pub returns-then-text-pos : goal.returns-then-text-pos

@@ -1,14 +1,10 @@
 -- Each turn is one of proofs/Limiting.antt. The measure is the number of steps left. Assumes nothing.
-use mathlib.Core.Logic.{inl, inr, ⊎_elim}
-use native.Mathlib.Omega.{arith}
-use Rattle.backtrack_encoder.proofs.Running.{running-start}
-use Rattle.limited_count.proofs.Limiting.{Limiting, limiting_start, limiting_ahead, limiting_end, limiting_over, limiting_stays, limiting_next}
+use Rattle.limited_count.proofs.Limiting.{Limiting}
 use Rattle.tables.specs.Tables.{tables}
-use borrow.Author.Rules.{rules}
 use Rattle.limited_count.proofs.count_till_limit_core.Given as goal
 
 abbrev pub invariant-loop-left : goal.invariant-loop-left
-invariant-loop-left l =     Limiting (tables l.file l.places l.lefts l.rights l.prefixes l.area) l.n l.text l.initial.work l.limit l.left l.asked l.encoder l.work l.alive
+invariant-loop-left l = Limiting (tables l.file l.places l.lefts l.rights l.prefixes l.area) l.n l.text l.initial.work l.limit l.left l.asked l.encoder l.work l.alive
 
 abbrev pub decreases-loop-left : goal.decreases-loop-left
-decreases-loop-left l =     l.left
+decreases-loop-left l = l.left

@@ -1,11 +1,9 @@
 -- The loop's invariant: the codes up to each of the first i places are counted (proofs/Many.antt). Assumes nothing.
 use mathlib.Core.Path.{refl}
-use Prim.Native.Nat.{ℕ, ◌-◌}
+use Prim.Native.Nat.{ℕ}
 use native.Mathlib.Omega.{arith}
-use lib.ListN.{length, length-replicate}
-use Rattle.limited_count.proofs.Many.{Counting, counting-start, counting-many, counting-ready, before-inside, before_small, counting_more, many-not}
-use Rattle.tables.specs.Tables.{pair_tables}
-use borrow.Author.Rules.{rules}
+use lib.ListN.{length-replicate}
+use Rattle.limited_count.proofs.Many.{counting-start, counting-many, counting-ready, before-inside, before_small, counting_more, many-not}
 use Rattle.limited_count.proofs.have_many_codes.Goals as goal
 
 pub loop-i-init : goal.loop-i-init

@@ -3,7 +3,6 @@ use mathlib.Core.Path.{sym}
 use native.Mathlib.Omega.{arith}
 use lib.Seq.{length-take-le}
 use Rattle.limited_count.proofs.Ahead.{over-not, many-ready, many-over}
-use borrow.Author.Rules.{rules}
 use Rattle.limited_count.proofs.is_over_ahead.Goals as goal
 
 pub returns-then-limit-encoder : goal.returns-then-limit-encoder

@@ -2,7 +2,6 @@
 use native.Mathlib.Numerals.{add-one}
 use Rattle.limited_count.proofs.Many.{in_a_row_none, in_a_row_more}
 use mathlib.Core.Path.{sym}
-use borrow.Author.Rules.{rules}
 use Rattle.limited_count.proofs.one_more.Goals as goal
 
 pub returns-then-count-limit : goal.returns-then-count-limit

@@ -1,6 +1,5 @@
 -- Asked or not asked (proofs/Staying.antt). Assumes nothing.
 use Rattle.limited_count.proofs.Staying.{stays-not, stays-asked}
-use borrow.Author.Rules.{rules}
 use Rattle.limited_count.proofs.stay_now.Goals as goal
 
 pub returns-then-asked-ne0 : goal.returns-then-asked-ne0

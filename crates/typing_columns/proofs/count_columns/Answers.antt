@@ -10,7 +10,7 @@ pub slice_bounds-columns_in_form-end-4 : goal.slice_bounds-columns_in_form-end-4
 slice_bounds-columns_in_form-end-4 c = refl
 
 pub columns_in_form-requires : goal.columns_in_form-requires
-columns_in_form-requires c = record { bytes_size = c.columns_in_form-arg-1.given.0; codes_size = c.columns_in_form-arg-2-1.given.0; counts_size = c.columns_in_form-arg-3-1.given.0; reading_size = refl }
+columns_in_form-requires c = record { bytes_size = c.columns_in_form-arg-1.given; codes_size = c.columns_in_form-arg-2-1.given; counts_size = c.columns_in_form-arg-3-1.given; reading_size = refl }
 
 pub returns-in_default : goal.returns-in_default
 returns-in_default c = count_out _ _ _ _ _ _ _ _ (rw c.in_default.is at c.columns_in_form.ensures)

@@ -8,7 +8,7 @@ use Rattle.causes.specs.declared.Cause.{Cause}
 use Rattle.causes.specs.Call.{to_number}
 use Rattle.causes.proofs.Calls.{call-refused, call-given}
 use Rattle.phrase_file.specs.Form.{rows}
-use Rattle.theory.specs.CountLimit.{Limited, over}
+use Rattle.theory.specs.CountLimit.{over}
 use Rattle.tables.specs.Tables.{Tables}
 use Rattle.causes.specs.declared.Answer.TheVariants.{Number, Refused}
 use Rattle.backtrack_encoder.specs.Encoder.{TextReady}
@@ -17,7 +17,6 @@ use Rattle.limited_count.specs.declared.Limited as Limit
 use Rattle.limited_count.specs.Answers.{limited_of, LimitedIs}
 use Rattle.byte_pair_encoding.specs.declared.Check.TheVariants as Check
 use Rattle.causes.specs.declared.LimitAnswer.{LimitAnswer}
-use Rattle.causes.specs.declared.LimitAnswer.TheVariants as LimitAnswer
 use Rattle.byte_pair_encoding.specs.Refusals.{send_refusal, count_refusal}
 use Rattle.byte_pair_encoding.specs.Answers.{checked_of, limit_given, to_limited}
 use Rattle.byte_pair_encoding.specs.Counting.{Counts, CountsTillLimit}

@@ -1,6 +1,6 @@
 -- The cases of the public pair check. Assumes nothing.
 use mathlib.Core.Path.{◌≡◌, sym, ap, subst, ◌∙◌}
-use mathlib.Core.List.{List, [], ◌∷◌}
+use mathlib.Core.List.{[], ◌∷◌}
 use mathlib.Core.Bool.{Bool, false}
 use Prim.Native.Nat.{ℕ, ◌≤◌, ◌<◌}
 use native.Mathlib.Omega.{arith}
@@ -19,7 +19,7 @@ use Rattle.tables.specs.InForm.{form_of}
 use Rattle.tables.proofs.Readiness.{ready}
 use Rattle.pair_check.specs.Pair.{PairReady}
 use Rattle.pair_check.specs.Pair as Pair
-use Rattle.built_tables.specs.Built.{dictionary_of, Built}
+use Rattle.built_tables.specs.Built.{dictionary_of}
 use Rattle.built_tables.proofs.Rows.{count_is, pair_is}
 use Rattle.byte_pair_encoding.specs.Pair.{pair_refusal, PairChecked}
 

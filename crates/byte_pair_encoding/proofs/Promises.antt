@@ -24,7 +24,6 @@ use Rattle.tables.specs.InForm.{form_of}
 use Rattle.built_tables.specs.Built.{dictionary_of, Built}
 use Rattle.built_tables.proofs.InForm.{is_in_form}
 use Rattle.causes.specs.declared.LimitAnswer.{LimitAnswer}
-use Rattle.causes.specs.declared.LimitAnswer.TheVariants as LimitAnswer
 use Rattle.byte_pair_encoding.specs.Refusals.{send_refusal, count_refusal}
 use Rattle.byte_pair_encoding.specs.Answers.{limit_given, to_limited}
 use Rattle.byte_pair_encoding.specs.Sending.{Sends}

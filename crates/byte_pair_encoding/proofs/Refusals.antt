@@ -1,17 +1,15 @@
 -- The cases of the refusals, and what holds where there is none. Assumes nothing.
 use mathlib.Core.Path.{◌≡◌, refl}
-use mathlib.Core.Option.{Option, none, some}
+use mathlib.Core.Option.{none, some}
 use mathlib.Core.List.{List, [], ◌∷◌}
 use mathlib.Core.Bool.{Bool, true, false, ◌||◌}
 use Prim.Native.Nat.{ℕ, ◌≤◌, ◌<◌}
 use lib.ListN.{length}
 use borrow.Author.Tests.{lt-ltb, le-ltb, ltb-false}
-use Rattle.causes.specs.declared.Cause.{Cause}
 use Rattle.causes.specs.declared.Cause.TheVariants.{TooShort, OutOfForm, TooLong}
 use Rattle.causes.specs.Order.{other_order, when, over, shorter, first_of}
 use Rattle.causes.proofs.None.{none-applies, neither}
 use Rattle.tables.specs.Tables.{Tables}
-use Rattle.tables.specs.declared.Form.{Form}
 use Rattle.tables.specs.declared.Form.TheVariants.{Rows, Out}
 use Rattle.tables.specs.InForm.{is_out, form_of}
 use Rattle.tables.proofs.Readiness.{form-rows}

@@ -1,10 +1,9 @@
 -- The cases of an encoder's contract, and each encoder over tables in form as one of them. Assumes nothing.
 use mathlib.Core.Path.{◌≡◌, refl, sym, subst, ◌∙◌}
-use mathlib.Core.Option.{none, some}
-use mathlib.Core.List.{List, ◌++◌}
+use mathlib.Core.List.{List}
 use Prim.Native.Nat.{ℕ, ◌<◌}
 use native.Mathlib.Omega.{arith}
-use lib.ListN.{length, get_or, drop}
+use lib.ListN.{length, get_or}
 use Rattle.causes.specs.declared.Cause.{Cause}
 use Rattle.phrase_file.specs.Form.{rows}
 use Rattle.phrase_file.proofs.Checks.{accepted}
@@ -15,7 +14,6 @@ use Rattle.tables.specs.Tables.{Tables, without_prefixes}
 use Rattle.causes.specs.declared.Answer.TheVariants.{Number, Refused}
 use Rattle.causes.specs.Call.{to_number}
 use Rattle.causes.proofs.Calls.{call-refused, call-given}
-use Rattle.tables.specs.InForm.{form_of}
 use Rattle.built_tables.specs.Built.{dictionary_of, Built}
 use Rattle.backtrack_encoder.specs.Answers.{OutputReady, EncodedInto}
 use Rattle.merge_encoder.specs.Encoding as Merge

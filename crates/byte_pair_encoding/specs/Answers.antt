@@ -8,7 +8,6 @@ use Rattle.causes.specs.Causes.{limit_answer_of}
 use Rattle.causes.specs.Call.{Told}
 use Rattle.theory.specs.CountLimit.{Limited, counted, over}
 use Rattle.byte_pair_encoding.specs.declared.Check.{Check}
-use Rattle.byte_pair_encoding.specs.declared.Check.TheVariants as Check
 
 -- the refusal of a call if there is one, else the count of rows
 abbrev pub checked_of : Option Cause → ℕ → Check

@@ -2,6 +2,8 @@
 // encoders are one private `encode` with the encoder as an argument, so that there is one proof of the refusals and one
 // of the answers. `encode_greedy` takes and checks a work buffer that it does not need, because document 01 asks it of
 // all encoders. The public pair check is in pairs.rt.
+#![tactic(auto)]
+
 mod pairs;
 
 ghost use Rattle.std.specs.Prelude.{◌≡◌, length};

@@ -79,7 +79,8 @@ module _ (f g : ℕ → ℕ) (m : ℕ) (low : (i : ℕ) → 0 < i → i ≤ m �
   number_in_same (suc k) (suc i) h =
       let w = low (suc i) (omega arith) h in
       let e = same (suc i) (omega arith) h in
-      rw (number_in_same k (f (suc i)) (omega arith), children_same (f (suc i)) (suc i) (omega arith), e)
+      ap₂ (λ (x y : ℕ). x + 1 + y) (number_in_same k (f (suc i)) (omega arith)) (children_same (f (suc i)) (suc i) (omega arith))
+      ∙ ap (λ (x : ℕ). number_in g m k x + 1 + children_below g m x (suc i)) e
 
   pub number_same : (i : ℕ) → i ≤ m → number f m i ≡ number g m i
   number_same i h = number_in_same i i h

@@ -1,4 +1,6 @@
 // The preparation of interval tables: the first part of the source's interval_encoding.rs.
+#![tactic(auto)]
+
 ghost use Rattle.std.specs.Prelude.{◌≡◌};
 ghost use Rattle.interval_prepare.specs.Steps.{parent_in, ParentReady, OnesReady, Ones, AddReady, added};
 ghost use Rattle.interval_prepare.specs.Steps.{SizesReady, SizesAre, ChildReady, ChildPlaced, TreeReady};

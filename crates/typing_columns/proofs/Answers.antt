@@ -1,5 +1,5 @@
 -- The answers of the calls on columns, case by case. Assumes nothing.
-use mathlib.Core.Path.{◌≡◌, refl, sym, ap, subst, ◌∙◌}
+use mathlib.Core.Path.{◌≡◌, refl, sym, subst, ◌∙◌}
 use mathlib.Core.Option.{none, some}
 use mathlib.Core.List.{List}
 use mathlib.Core.Bool.{Bool, true, false, not, cond, ◌||◌}
@@ -13,7 +13,7 @@ use Rattle.phrase_file.proofs.Checks.{accepted}
 use Rattle.theory.specs.Dictionary.{Octets}
 use Rattle.theory.specs.Typing.{Side, check_at, in_form, TrueAt}
 use Rattle.theory.proofs.Typing.{forms_true}
-use Rattle.tables.specs.Tables.{Tables, pair_tables, without_prefixes}
+use Rattle.tables.specs.Tables.{Tables, without_prefixes}
 use Rattle.tables.specs.declared.Form.{Form}
 use Rattle.tables.specs.declared.Form.TheVariants.{Rows, Out}
 use Rattle.causes.specs.declared.Answer.TheVariants.{Number, Refused}
@@ -26,7 +26,7 @@ use Rattle.tables.proofs.Readiness.{ready}
 use Rattle.built_tables.specs.Built.{dictionary_of, Built}
 use Rattle.built_tables.proofs.Rows.{lawful-is, known}
 use Rattle.typing_columns.specs.Refusals.{head_out, any_out, extend_refusal, token_count_refusal}
-use Rattle.typing_columns.specs.Columns.{last_count, Added, FormOf, ExtendedColumns, CountedColumns}
+use Rattle.typing_columns.specs.Columns.{last_count, FormOf, ExtendedColumns, CountedColumns}
 use Rattle.typing_columns.specs.Steps.{Mirrored, Sizes, RecordsReady, RecordsAre, ExtendReady, ExtendedBy, PassedTo, Checked}
 use Rattle.typing_columns.proofs.Rows.{parts_in_form_lem}
 use Rattle.typing_columns.proofs.Recording.{checks_as}

@@ -7,7 +7,7 @@ use lib.ListN.{length}
 use Rattle.phrase_file.specs.Form.{rows}
 use Rattle.placed_rows.specs.Rows.{row}
 use Rattle.theory.specs.Parts.{dictionary}
-use Rattle.tables.specs.Tables.{Tables, PairTables, pair_tables, without_prefixes}
+use Rattle.tables.specs.Tables.{Tables, PairTables, without_prefixes}
 use Rattle.tables.specs.Ready.{PlacesReady, Ready}
 use Rattle.pair_check.specs.Pair.{PairReady}
 use Rattle.built_tables.specs.Built.{dictionary_of}

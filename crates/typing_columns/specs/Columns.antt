@@ -1,9 +1,8 @@
 -- Typing over columns: the bytes, codes and counts of the records, each in a buffer of its own.
 use Rattle.std.specs.Prelude.{◌≡◌, List, ◌++◌, Bool, false, ℕ, zero, suc, ◌+◌, ◌<◌, ◌≤◌, length, get_or, take}
-use Rattle.std.proofs.Math.Option.{none}
 use Rattle.theory.specs.Typing as Typing
 use Rattle.tables.specs.Tables.{Tables}
-use Rattle.tables.specs.InForm.{count, form_of, all_below}
+use Rattle.tables.specs.InForm.{count, all_below}
 use Rattle.causes.specs.declared.Answer.{Answer}
 use Rattle.causes.specs.Call.{Call, to_number, no_buffer}
 use Rattle.built_tables.specs.Built.{dictionary_of, Built}

@@ -2,7 +2,6 @@
 use native.Mathlib.Omega.{arith}
 use Rattle.built_tables.proofs.Rows.{octets}
 use Rattle.typing_columns.proofs.Coding.{code-appended, code-prepended}
-use borrow.Author.Rules.{rules}
 use Rattle.typing_columns.proofs.code_at.Goals as goal
 
 pub returns-in-Append : goal.returns-in-Append

@@ -4,7 +4,6 @@ use native.Mathlib.Omega.{arith}
 use borrow.Author.Tests.{not-true, not-false}
 use Rattle.built_tables.proofs.Rows.{octets}
 use Rattle.typing_columns.proofs.Answers.{checked_out, checked-beyond, checked-long, checked_broken, checked-passed, checked_records_ready}
-use borrow.Author.Rules.{rules}
 use Rattle.typing_columns.proofs.columns_in_form.Goals as goal
 
 pub returns-in_default : goal.returns-in_default

@@ -3,7 +3,6 @@ use Prim.Native.Nat.{◌≤◌}
 use mathlib.Core.Path.{refl}
 use native.Mathlib.Omega.{arith}
 use Rattle.typing_columns.proofs.Answers.{count_out, count_none, count-last, checked-place}
-use borrow.Author.Rules.{rules}
 use Rattle.typing_columns.proofs.count_columns.Goals as goal
 
 pub slice_bounds-columns_in_form-end-4 : goal.slice_bounds-columns_in_form-end-4

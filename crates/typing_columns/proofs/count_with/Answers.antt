@@ -1,7 +1,6 @@
 -- The count follows by the two cases of a row, as in `follows`. Assumes nothing.
 use native.Mathlib.Omega.{arith}
 use Rattle.typing_columns.proofs.Following.{count-whole, count-entry, count-few, count-behind}
-use borrow.Author.Rules.{rules}
 use Rattle.typing_columns.proofs.count_with.Goals as goal
 
 pub returns-then-i-len : goal.returns-then-i-len

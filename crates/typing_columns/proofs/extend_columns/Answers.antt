@@ -1,7 +1,6 @@
 -- Each cause decides one answer, in document 01's order (proofs/Answers.antt). Assumes nothing.
 use native.Mathlib.Omega.{arith}
 use Rattle.typing_columns.proofs.Answers.{extend-long, extend_out, extend-slice, extend-most, extend-done, extend-ready, checked-place}
-use borrow.Author.Rules.{rules}
 use Rattle.typing_columns.proofs.extend_columns.Goals as goal
 
 pub returns-then-typed-gt4096 : goal.returns-then-typed-gt4096

@@ -1,12 +1,7 @@
 -- The loop's invariant: k of the bytes are typed. Assumes nothing.
 use mathlib.Core.Path.{sym, ◌∙◌}
-use Prim.Native.Nat.{◌-◌}
-use lib.ListN.{length}
 use native.Mathlib.Omega.{arith}
-use Rattle.typing_columns.specs.Sides.{side_of}
-use Rattle.typing_columns.proofs.Pushing.{Extending, extending_start, extending_end, extending_ready, extending_more}
-use borrow.Author.Rules.{rules}
-use Rattle.tables.specs.Tables.{pair_tables}
+use Rattle.typing_columns.proofs.Pushing.{extending_start, extending_end, extending_ready, extending_more}
 use Rattle.typing_columns.proofs.extend_core.Goals as goal
 
 pub loop-k-init : goal.loop-k-init

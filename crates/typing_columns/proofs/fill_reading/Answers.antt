@@ -1,8 +1,6 @@
 -- The loop's invariant: the first i bytes stand in `reading` from its end back. Assumes nothing.
-use Prim.Native.Nat.{◌-◌, ◌≤◌}
 use native.Mathlib.Omega.{arith}
 use mathlib.Core.Path.{sym, ◌∙◌}
-use Rattle.typing_columns.specs.Steps.{Mirrored, FillReady}
 use Rattle.typing_columns.proofs.Mirror.{mirror_none, mirror_more, mirror_end}
 use Rattle.typing_columns.proofs.fill_reading.Goals as goal
 

@@ -1,7 +1,6 @@
 -- The answers follow by the two cases of a row: it reaches the first byte, or there is a record before it. Assumes nothing.
 use native.Mathlib.Omega.{arith}
 use Rattle.typing_columns.proofs.Following.{follows-whole, follows-entry, follows_pair_of, follows-beside}
-use borrow.Author.Rules.{rules}
 use Rattle.typing_columns.proofs.follows.Goals as goal
 
 pub returns-then-i-len : goal.returns-then-i-len

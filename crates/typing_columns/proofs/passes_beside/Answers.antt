@@ -2,7 +2,6 @@
 use native.Mathlib.Omega.{arith}
 use Rattle.typing_columns.proofs.Rows.{pair-behind, pair-ahead}
 use Rattle.typing_columns.proofs.Following.{beside-appended, beside-prepended}
-use borrow.Author.Rules.{rules}
 use Rattle.typing_columns.proofs.passes_beside.Goals as goal
 
 pub overflow_cast-limit : goal.overflow_cast-limit

@@ -1,6 +1,5 @@
 -- One record is written, with the code found and the count that goes with it. Assumes nothing.
 use Rattle.typing_columns.proofs.Pushing.{push_code_ready, push-made}
-use borrow.Author.Rules.{rules}
 use Rattle.typing_columns.proofs.push_core.Goals as goal
 
 pub code_at-code-requires : goal.code_at-code-requires

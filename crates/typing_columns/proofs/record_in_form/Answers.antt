@@ -5,7 +5,6 @@ use lib.ListN.{get_or}
 use native.Mathlib.Omega.{arith}
 use borrow.Author.Tests.{not-true, not-false}
 use Rattle.typing_columns.proofs.Recording.{record_unknown, record_ends_ready, record_follows_ready, record_count_ready, record_other, record_apart, record_counted}
-use borrow.Author.Rules.{rules}
 use Rattle.typing_columns.proofs.record_in_form.Goals as goal
 
 pub bounds-codes-i : goal.bounds-codes-i

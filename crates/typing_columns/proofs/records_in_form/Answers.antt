@@ -1,10 +1,7 @@
 -- The loop's invariant: the records below i are in form. Assumes nothing.
-use Prim.Native.Nat.{◌-◌}
 use native.Mathlib.Omega.{arith}
 use borrow.Author.Tests.{not-true, not-false}
-use Rattle.typing_columns.specs.Sides.{side_of}
-use Rattle.typing_columns.proofs.Recording.{Recorded, records-start, records-end, records-ready, records_fail, records-more}
-use Rattle.tables.specs.Tables.{pair_tables}
+use Rattle.typing_columns.proofs.Recording.{records-start, records-end, records-ready, records_fail, records-more}
 use Rattle.typing_columns.proofs.records_in_form.Goals as goal
 
 pub loop-i-init : goal.loop-i-init

@@ -3,7 +3,6 @@ use mathlib.Core.Path.{sym}
 use native.Mathlib.Omega.{arith}
 use lib.Seq.{length-take-le}
 use Rattle.typing_columns.proofs.Ending.{ends-appended, ends-prepended}
-use borrow.Author.Rules.{rules}
 use Rattle.typing_columns.proofs.row_ends.Goals as goal
 
 pub slice_bounds-begins_facing-end : goal.slice_bounds-begins_facing-end

@@ -1,6 +1,5 @@
 -- The length read is that of the dictionary's row. Assumes nothing.
 use Rattle.end_code.proofs.Sizes.{read-size}
-use borrow.Author.Rules.{rules}
 use Rattle.typing_columns.proofs.row_len.Goals as goal
 
 pub returns : goal.returns

@@ -1,5 +1,6 @@
 // Files by name: reading a whole one, writing a whole one, and what is said where that fails. The system's calls take a
 // name as text, so one that is not UTF-8 is no name of a file.
+ghost use Rattle.std.specs.Prelude.{◌<◌};
 ghost use Rattle.std.specs.Io.{ReadsAtMost};
 ghost use Rattle.tool_io.specs.Files.{Read};
 

@@ -1,7 +1,6 @@
 -- What each answer of a reading says of the buffer. Assumes nothing.
 use Rattle.std.proofs.Common.{◌≡◌, ℕ, ◌≤◌, List, length, arith}
 use Rattle.std.specs.declared.io.Error.{Error}
-use Rattle.tool_io.specs.declared.files.Source.{Source}
 use Rattle.tool_io.specs.declared.files.Source.TheVariants.{Bytes, Over, Failed}
 use Rattle.tool_io.specs.Files.{Read}
 

@@ -5,12 +5,11 @@ ghost use Rattle.std.specs.Io.{ReadsAtMost};
 ghost use Rattle.tool_io.specs.Files.{Read};
 
 use crate::saying::say_quoted;
-use std::fs;
 use std::fs::{OpenOptions, Permissions};
-use std::io;
 use std::io::{ErrorKind, Write};
 use std::os::unix::fs::{OpenOptionsExt, PermissionsExt};
 use std::rt::Files;
+use std::{fs, io};
 use words::{front, is, put_all, say};
 
 // Whether a text begins with this one.

@@ -2,8 +2,8 @@
 use crate::rows::{bytes_of, row_with, row_with_hash};
 use crate::saying::{say_byte, say_many, say_quoted};
 use causes::Cause;
-use words::{say, say_number};
 use std::io;
+use words::{say, say_number};
 
 // A byte as a number of 64 bits.
 fn wide_byte(x: u8) -> u64 {
@@ -99,7 +99,10 @@ fn say_row_count(rt: &impl Print, n: usize) -> io::Result<()> {
     say(rt, b"the file has ")?;
     say_many(rt, n, b"row")?;
     if n < 256 {
-        return say(rt, b" and needs at least 256, one for each byte; add the missing ones");
+        return say(
+            rt,
+            b" and needs at least 256, one for each byte; add the missing ones",
+        );
     }
     say(rt, b" and may have 4096; take out ")?;
     say_number(rt, n.wrapping_sub(4096) as u64)
@@ -159,7 +162,10 @@ fn say_no_parts(rt: &impl Print, file: &[u8], row: usize) -> io::Result<()> {
         say_number(rt, row_with(file, &letter) as u64)?;
         return say(rt, b"; move the word below its letters");
     }
-    say(rt, b"no two rows above it that pass the pair check join to it; put its parts above it")
+    say(
+        rt,
+        b"no two rows above it that pass the pair check join to it; put its parts above it",
+    )
 }
 
 // What is said of a file that build refused with this factor. The lines for people.

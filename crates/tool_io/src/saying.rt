@@ -1,6 +1,6 @@
 // Bytes and codes as people read them.
-use words::{say, say_number, wide};
 use std::io;
+use words::{say, say_number, wide};
 
 // A byte as \xNN.
 fn say_hex(rt: &impl Print, byte: u8) -> io::Result<()> {

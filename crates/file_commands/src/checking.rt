@@ -1,10 +1,10 @@
 // `phrases check FILE [FACTOR]`
 use crate::loading::{File, Loaded, build, read_file};
 use causes::BuildAnswer;
-use tool_io::{longest, say_argument, say_error_result, say_many};
-use words::{Parsed, front, number, say, say_number};
 use std::io;
 use std::rt::Files;
+use tool_io::{longest, say_argument, say_error_result, say_many};
+use words::{Parsed, front, number, say, say_number};
 
 // What is said of an accepted file of n rows.
 fn say_accepted(rt: &impl Print, file: &[u8], n: usize) -> io::Result<()> {
@@ -26,7 +26,13 @@ fn say_accepted(rt: &impl Print, file: &[u8], n: usize) -> io::Result<()> {
 }
 
 // Builds the file at the front of a buffer with a factor, and says what became of it.
-fn check_bytes(rt: &impl Print, name: &[u8], buffer: &File, size: usize, factor: u64) -> io::Result<()> {
+fn check_bytes(
+    rt: &impl Print,
+    name: &[u8],
+    buffer: &File,
+    size: usize,
+    factor: u64,
+) -> io::Result<()> {
     let file = front(buffer, size);
     let mut places = [0u32; 4096];
     let mut lefts = [0u32; 4096];
@@ -59,7 +65,12 @@ fn check_with(rt: &(impl Files + Print), name: &[u8], factor: u64) -> io::Result
 }
 
 // The command. The factor is 1 where none is given.
-pub fn check(rt: &(impl Files + Print), name: &[u8], factor: &[u8], is_given: bool) -> io::Result<()> {
+pub fn check(
+    rt: &(impl Files + Print),
+    name: &[u8],
+    factor: &[u8],
+    is_given: bool,
+) -> io::Result<()> {
     if !is_given {
         return check_with(rt, name, 1);
     }

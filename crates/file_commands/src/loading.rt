@@ -1,14 +1,14 @@
 // From the name of a phrase file to its tables, for all commands.
-ghost use Rattle.std.specs.Prelude.{◌≤◌};
+ghost use Rattle.std.specs.Prelude.{◌≤◌, IfOk};
 ghost use Rattle.file_commands.specs.Loading.{Loads};
 
 use causes::{BuildAnswer, Cause};
+use std::io;
+use std::rt::Files;
 use tool_io::{
     Source, read_named, say_cause_fields, say_cause_result, say_failed, say_quoted, say_refusal,
 };
 use words::{front, say, say_number};
-use std::io;
-use std::rt::Files;
 
 // The bytes of a phrase file.
 pub type File = [u8; 65536];
@@ -125,8 +125,7 @@ pub(crate) fn build(
         BuildAnswer::Rows(_) => {}
         BuildAnswer::Refused(cause) => {
             say_refused(
-                rt,
-                cause, name, file, factor, places, lefts, rights, prefixes, area,
+                rt, cause, name, file, factor, places, lefts, rights, prefixes, area,
             )?
         }
     }
@@ -141,8 +140,12 @@ fn say_large(rt: &impl Print) -> io::Result<()> {
 }
 
 // Reads a phrase file, or says why it cannot.
-pub(crate) fn read_file(rt: &(impl Files + Print), name: &[u8], file: &mut File) -> io::Result<Loaded>
-    ensures { Loads result }
+pub(crate) fn read_file(
+    rt: &(impl Files + Print),
+    name: &[u8],
+    file: &mut File,
+) -> io::Result<Loaded>
+    ensures { IfOk result Loads }
 {
     match read_named(rt, name, file) {
         Source::Bytes(size) => Ok(Loaded::Size(size)),
@@ -186,11 +189,13 @@ fn build_usual(
     area: &mut Area,
 ) -> io::Result<Loaded>
     requires { size ≤ 65536 }
-    ensures { Loads result }
+    ensures { IfOk result Loads }
 {
     let file = front(buffer, size);
     let factor = usual_factor(file, places, lefts, rights, prefixes, area);
-    match build(rt, name, file, factor, places, lefts, rights, prefixes, area)? {
+    match build(
+        rt, name, file, factor, places, lefts, rights, prefixes, area,
+    )? {
         BuildAnswer::Rows(_) => Ok(Loaded::Size(size)),
         BuildAnswer::Refused(_) => Ok(Loaded::Nothing),
     }
@@ -207,10 +212,12 @@ pub fn load(
     prefixes: &mut Table,
     area: &mut Area,
 ) -> io::Result<Loaded>
-    ensures { Loads result }
+    ensures { IfOk result Loads }
 {
     match read_file(rt, name, file)? {
-        Loaded::Size(size) => build_usual(rt, name, file, size, places, lefts, rights, prefixes, area),
+        Loaded::Size(size) => build_usual(
+            rt, name, file, size, places, lefts, rights, prefixes, area,
+        ),
         Loaded::Nothing => Ok(Loaded::Nothing),
     }
 }

@@ -1,14 +1,14 @@
 // `phrases sheet SHEET OUT`
 use crate::loading::File;
 use causes::{BuildAnswer, Cause};
+use std::io;
+use std::rt::Files;
 use text_forms::Made;
 use tool_io::{
     Source, Written, read_named, say_argument, say_cause_fields, say_error_result, say_failed,
     say_many, say_quoted, say_refusal, write_named,
 };
 use words::{front, is, say, say_number};
-use std::io;
-use std::rt::Files;
 
 // The bytes of a sheet.
 type Sheet = [u8; 262144];
@@ -80,7 +80,13 @@ fn say_made(rt: &impl Print, name: &[u8], rows: usize, file: &[u8]) -> io::Resul
 }
 
 // Writes the file of a sheet, which stands at the front of a buffer, and says so.
-fn write_rows(rt: &(impl Files + Print), name: &[u8], rows: usize, buffer: &File, size: usize) -> io::Result<()> {
+fn write_rows(
+    rt: &(impl Files + Print),
+    name: &[u8],
+    rows: usize,
+    buffer: &File,
+    size: usize,
+) -> io::Result<()> {
     let file = front(buffer, size);
     match write_named(rt, name, file) {
         Written::Done => say_made(rt, name, rows, file),
@@ -89,7 +95,13 @@ fn write_rows(rt: &(impl Files + Print), name: &[u8], rows: usize, buffer: &File
 }
 
 // Makes the file of a sheet, which stands at the front of a buffer.
-fn make(rt: &(impl Files + Print), name: &[u8], buffer: &Sheet, size: usize, out: &[u8]) -> io::Result<()> {
+fn make(
+    rt: &(impl Files + Print),
+    name: &[u8],
+    buffer: &Sheet,
+    size: usize,
+    out: &[u8],
+) -> io::Result<()> {
     let mut file = [0u8; 65536];
     match text_forms::make_file(front(buffer, size), &mut file) {
         Made::Rows(rows, size) => write_rows(rt, out, rows, &file, size),
@@ -102,7 +114,12 @@ fn make(rt: &(impl Files + Print), name: &[u8], buffer: &Sheet, size: usize, out
             )
         }
         Made::Empty(line) => say_line(rt, name, line, b": no phrase; take the line out"),
-        Made::Long(line) => say_line(rt, name, line, b": the phrase has over 64 bytes; shorten it"),
+        Made::Long(line) => say_line(
+            rt,
+            name,
+            line,
+            b": the phrase has over 64 bytes; shorten it",
+        ),
         Made::Full(line) => say_line(
             rt,
             name,
@@ -113,7 +130,12 @@ fn make(rt: &(impl Files + Print), name: &[u8], buffer: &Sheet, size: usize, out
 }
 
 // Reads the sheet into a buffer and makes its file.
-fn make_named(rt: &(impl Files + Print), name: &[u8], out: &[u8], bytes: &mut Sheet) -> io::Result<()> {
+fn make_named(
+    rt: &(impl Files + Print),
+    name: &[u8],
+    out: &[u8],
+    bytes: &mut Sheet,
+) -> io::Result<()> {
     match read_named(rt, name, bytes) {
         Source::Bytes(size) => make(rt, name, bytes, size, out),
         Source::Over => {

@@ -1,8 +1,8 @@
 // Codes as bursts, in words.
+use std::io;
 use text_forms::{bursts, left};
 use tool_io::say_many;
 use words::{say, say_number};
-use std::io;
 
 // `8 codes, 1 burst, 32 left in the last`.
 pub(crate) fn say_bursts(rt: &impl Print, count: usize) -> io::Result<()> {

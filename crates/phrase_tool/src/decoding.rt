@@ -1,9 +1,9 @@
 // `phrases decode FILE TEXT`
 use causes::{Answer, Cause};
+use std::io;
 use text_forms::{Codes, Listed, list_codes, run};
 use tool_io::{say_argument, say_cause, say_cause_result, say_error_result, say_many, say_quoted};
 use words::{back, front, front_numbers, say, say_number};
-use std::io;
 
 // A word that is no number.
 fn say_wrong(rt: &impl Print, name: &[u8], text: &[u8], at: usize) -> io::Result<()> {
@@ -109,8 +109,7 @@ pub(crate) fn decode(
     let mut codes = [0u32; 4097];
     match list_codes(text, &mut codes) {
         Listed::Codes(count) => decode_codes(
-            rt,
-            file, places, lefts, rights, prefixes, area, &codes, count,
+            rt, file, places, lefts, rights, prefixes, area, &codes, count,
         ),
         Listed::Wrong(at) => say_wrong(rt, name, text, at),
     }

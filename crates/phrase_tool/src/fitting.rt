@@ -1,13 +1,16 @@
 // `phrases fits FILE TEXT BURSTS`
 use causes::LimitAnswer;
+use std::io;
 use tool_io::{say_argument, say_cause_result, say_error_result, say_many, say_refusal};
 use words::{Parsed, number, say, say_number};
-use std::io;
 
 // A number of bursts that no text can take.
 fn say_no_bursts(rt: &impl Print, given: &[u8]) -> io::Result<()> {
     say_argument(rt, b"BURSTS", given)?;
-    say(rt, b"give a number from 0 to 103; 103 bursts hold every text")?;
+    say(
+        rt,
+        b"give a number from 0 to 103; 103 bursts hold every text",
+    )?;
     say_error_result(rt, b"BURSTS")
 }
 

@@ -20,12 +20,12 @@ mod usage;
 use crate::command_line::{word, word_count};
 use crate::texts::{Given, read_numbers, read_text};
 use file_commands::{Loaded, load};
-use tool_io::{say_error_result, say_quoted};
-use usage::help;
-use words::{front, is, say, say_number};
 use std::io;
 use std::io::Read;
 use std::rt::Files;
+use tool_io::{say_error_result, say_quoted};
+use usage::help;
+use words::{front, is, say, say_number};
 
 // A table of a phrase file.
 type Table = [u32; 4096];
@@ -97,8 +97,7 @@ fn run_decode(
     let mut buffer = [0u8; 65536];
     match read_numbers(rt, name, input, &mut buffer)? {
         Given::Size(size) => decode_buffer(
-            rt,
-            file, places, lefts, rights, prefixes, area, name, &buffer, size,
+            rt, file, places, lefts, rights, prefixes, area, name, &buffer, size,
         ),
         Given::Nothing => Ok(()),
     }
@@ -194,8 +193,7 @@ fn run_given(
         );
     }
     run_text(
-        rt,
-        command, line, file, places, lefts, rights, prefixes, area, input,
+        rt, command, line, file, places, lefts, rights, prefixes, area, input,
     )
 }
 
@@ -216,7 +214,9 @@ fn run_built(
 ) -> io::Result<()> {
     let file = front(buffer, size);
     if is(command, b"type") {
-        return crate::typing_command::type_text(rt, file, places, lefts, rights, prefixes, area, input, each);
+        return crate::typing_command::type_text(
+            rt, file, places, lefts, rights, prefixes, area, input, each,
+        );
     }
     if is(command, b"why") {
         return crate::pairs::why(
@@ -232,13 +232,18 @@ fn run_built(
         );
     }
     run_given(
-        rt,
-        command, line, file, places, lefts, rights, prefixes, area, input,
+        rt, command, line, file, places, lefts, rights, prefixes, area, input,
     )
 }
 
 // Loads the phrase file, and does a command over it.
-fn run_loaded(rt: &(impl Files + Print), command: &[u8], line: &[u8], input: &mut impl Read, each: bool) -> io::Result<()> {
+fn run_loaded(
+    rt: &(impl Files + Print),
+    command: &[u8],
+    line: &[u8],
+    input: &mut impl Read,
+    each: bool,
+) -> io::Result<()> {
     let mut file = [0u8; 65536];
     let mut places = [0u32; 4096];
     let mut lefts = [0u32; 4096];
@@ -256,15 +261,21 @@ fn run_loaded(rt: &(impl Files + Print), command: &[u8], line: &[u8], input: &mu
         &mut area,
     )? {
         Loaded::Size(size) => run_built(
-            rt,
-            command, line, &file, size, &places, &lefts, &rights, &prefixes, &area, input, each,
+            rt, command, line, &file, size, &places, &lefts, &rights, &prefixes, &area, input, each,
         ),
         Loaded::Nothing => Ok(()),
     }
 }
 
 // Whether the number of arguments is right; if not, it is said.
-fn takes(rt: &impl Print, command: &[u8], arguments: &[u8], least: usize, most: usize, given: usize) -> io::Result<bool> {
+fn takes(
+    rt: &impl Print,
+    command: &[u8],
+    arguments: &[u8],
+    least: usize,
+    most: usize,
+    given: usize,
+) -> io::Result<bool> {
     if least <= given && given <= most {
         return Ok(true);
     }
@@ -273,7 +284,13 @@ fn takes(rt: &impl Print, command: &[u8], arguments: &[u8], least: usize, most: 
 }
 
 // Does a command that takes FILE and TEXT, if it is one.
-fn run_sending(rt: &(impl Files + Print), command: &[u8], line: &[u8], given: usize, input: &mut impl Read) -> io::Result<bool> {
+fn run_sending(
+    rt: &(impl Files + Print),
+    command: &[u8],
+    line: &[u8],
+    given: usize,
+    input: &mut impl Read,
+) -> io::Result<bool> {
     if !(is(command, b"encode")
         || is(command, b"count")
         || is(command, b"shortest")
@@ -288,7 +305,14 @@ fn run_sending(rt: &(impl Files + Print), command: &[u8], line: &[u8], given: us
 }
 
 // Does one of the other commands over a phrase file, if it is one.
-fn run_other(rt: &(impl Files + Print), command: &[u8], line: &[u8], given: usize, input: &mut impl Read, each: bool) -> io::Result<bool> {
+fn run_other(
+    rt: &(impl Files + Print),
+    command: &[u8],
+    line: &[u8],
+    given: usize,
+    input: &mut impl Read,
+    each: bool,
+) -> io::Result<bool> {
     if is(command, b"type") {
         if takes(rt, command, b"FILE", 1, 1, given)? {
             run_loaded(rt, command, line, input, each)?;
@@ -317,7 +341,12 @@ fn run_other(rt: &(impl Files + Print), command: &[u8], line: &[u8], given: usiz
 }
 
 // Does one of the commands that make or check a phrase file, if it is one.
-fn run_making(rt: &(impl Files + Print), command: &[u8], line: &[u8], given: usize) -> io::Result<bool> {
+fn run_making(
+    rt: &(impl Files + Print),
+    command: &[u8],
+    line: &[u8],
+    given: usize,
+) -> io::Result<bool> {
     if is(command, b"check") {
         if takes(rt, command, b"FILE [FACTOR]", 1, 2, given)? {
             file_commands::check(rt, word(line, 1), word(line, 2), 2 <= given)?;
@@ -335,7 +364,12 @@ fn run_making(rt: &(impl Files + Print), command: &[u8], line: &[u8], given: usi
 
 // Runs a command line: the command and its arguments, each word ended by a byte 0. `input` is standard input;
 // `each` says whether `type` shows the count after each byte.
-pub fn run(rt: &(impl Files + Print), line: &[u8], input: &mut impl Read, each: bool) -> io::Result<()> {
+pub fn run(
+    rt: &(impl Files + Print),
+    line: &[u8],
+    input: &mut impl Read,
+    each: bool,
+) -> io::Result<()> {
     let count = word_count(line);
     if count == 0 {
         return help(rt);

@@ -1,11 +1,11 @@
 // `phrases why FILE ROW ROW`
 use causes::{Answer, Cause, PairAnswer};
+use std::io;
 use tool_io::{
     say_argument, say_cause, say_cause_result, say_codes, say_error_result, say_many, say_quoted,
     say_row,
 };
 use words::{Parsed, front, front_numbers, number, say, say_number, wide};
-use std::io;
 
 // An entry of a table, 0 beyond it.
 fn entry(table: &[u32], row: u32) -> usize {
@@ -17,7 +17,13 @@ fn entry(table: &[u32], row: u32) -> usize {
 }
 
 // A row and its parts.
-fn say_parts(rt: &impl Print, file: &[u8], lefts: &[u32], rights: &[u32], row: u32) -> io::Result<()> {
+fn say_parts(
+    rt: &impl Print,
+    file: &[u8],
+    lefts: &[u32],
+    rights: &[u32],
+    row: u32,
+) -> io::Result<()> {
     let left = entry(lefts, row);
     say_row(rt, file, row as usize)?;
     if left == row as usize {
@@ -77,8 +83,7 @@ fn say_instead(
         file, places, lefts, rights, prefixes, area, pair, &mut bytes,
     ) {
         Answer::Number(size) => send_joined(
-            rt,
-            file, places, lefts, rights, prefixes, area, &bytes, size,
+            rt, file, places, lefts, rights, prefixes, area, &bytes, size,
         ),
         Answer::Refused(_) => Ok(()),
     }
@@ -127,7 +132,16 @@ fn why_pair(
                 return say_pair(rt, left, right, b"passes");
             }
             say(rt, b"they may not stand beside each other: ")?;
-            say_instead(rt, file, places, lefts, rights, prefixes, area, &[left, right])?;
+            say_instead(
+                rt,
+                file,
+                places,
+                lefts,
+                rights,
+                prefixes,
+                area,
+                &[left, right],
+            )?;
             say_pair(rt, left, right, b"fails")
         }
         PairAnswer::Refused(cause) => say_no_row(rt, cause, file),
@@ -177,5 +191,7 @@ pub(crate) fn why(
     let Row::Number(second) = row_number(rt, right)? else {
         return Ok(());
     };
-    why_pair(rt, file, places, lefts, rights, prefixes, area, first, second)
+    why_pair(
+        rt, file, places, lefts, rights, prefixes, area, first, second,
+    )
 }

@@ -1,9 +1,9 @@
 // `phrases encode`, `shortest` and `count`: the codes of a text, and their number.
 use crate::bursts::{say_bursts, say_fields};
 use causes::Answer;
+use std::io;
 use tool_io::{say_cause_result, say_codes, say_refusal};
 use words::{front_numbers, say};
-use std::io;
 
 // The answer of a call over a text: its number, or none and the refusal is said.
 #[derive(Drop)]
@@ -25,7 +25,13 @@ pub(crate) fn told(rt: &impl Print, answer: Answer, file: &[u8]) -> io::Result<S
 }
 
 // The codes on a line, and the line for a script.
-fn say_sent(rt: &impl Print, answer: Answer, name: &[u8], file: &[u8], codes: &[u32]) -> io::Result<()> {
+fn say_sent(
+    rt: &impl Print,
+    answer: Answer,
+    name: &[u8],
+    file: &[u8],
+    codes: &[u32],
+) -> io::Result<()> {
     let Sent::Codes(count) = told(rt, answer, file)? else {
         return Ok(());
     };

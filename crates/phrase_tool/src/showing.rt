@@ -1,10 +1,10 @@
 // `phrases show FILE TEXT OUT`
 use crate::bursts::{say_bursts, say_fields};
 use crate::sending::{Sent, told};
-use tool_io::{Written, say_failed, say_quoted, write_named};
-use words::{front, front_numbers, say};
 use std::io;
 use std::rt::Files;
+use tool_io::{Written, say_failed, say_quoted, write_named};
+use words::{front, front_numbers, say};
 
 // A page that was written, and the line for a script.
 fn say_shown(rt: &impl Print, out: &[u8], count: usize) -> io::Result<()> {

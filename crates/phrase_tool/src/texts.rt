@@ -1,13 +1,13 @@
 // The text of a command: a file or standard input, taken byte for byte.
 use causes::Cause;
+use std::io;
+use std::io::Read;
+use std::rt::Files;
 use tool_io::{
     Source, read_given, say_argument, say_cause, say_cause_result, say_error_result, say_failed,
     say_many, say_quoted,
 };
 use words::say;
-use std::io;
-use std::io::Read;
-use std::rt::Files;
 
 // A text as it is read. It has room for more than may be sent, so that the length of a longer one can be said.
 pub type Text = [u8; 65536];
@@ -36,7 +36,12 @@ fn say_allowed(rt: &impl Print) -> io::Result<()> {
 }
 
 // Reads a text of at most 4,096 bytes, or says why it cannot.
-pub(crate) fn read_text(rt: &(impl Files + Print), name: &[u8], input: &mut impl Read, text: &mut Text) -> io::Result<Given> {
+pub(crate) fn read_text(
+    rt: &(impl Files + Print),
+    name: &[u8],
+    input: &mut impl Read,
+    text: &mut Text,
+) -> io::Result<Given> {
     match read_given(rt, name, input, text) {
         Source::Bytes(size) => {
             if size <= 4096 {
@@ -61,7 +66,12 @@ pub(crate) fn read_text(rt: &(impl Files + Print), name: &[u8], input: &mut impl
 }
 
 // Reads the text of `decode`: numbers, of which no more are read than the buffer has room for.
-pub(crate) fn read_numbers(rt: &(impl Files + Print), name: &[u8], input: &mut impl Read, text: &mut Text) -> io::Result<Given> {
+pub(crate) fn read_numbers(
+    rt: &(impl Files + Print),
+    name: &[u8],
+    input: &mut impl Read,
+    text: &mut Text,
+) -> io::Result<Given> {
     match read_given(rt, name, input, text) {
         Source::Bytes(size) => Ok(Given::Size(size)),
         Source::Over => {

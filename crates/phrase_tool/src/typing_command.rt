@@ -2,11 +2,11 @@
 // slice of records are the same calls, and a function around them is not covered by the borrow checker.
 use crate::bursts::{say_bursts, say_fields};
 use causes::Answer;
+use std::io;
+use std::io::Read;
 use tool_io::{say_byte, say_codes, say_many};
 use typing_columns::Side;
 use words::{front, front_numbers, say, say_number};
-use std::io;
-use std::io::Read;
 
 // The bytes typed.
 type Bytes = [u8; 4096];
@@ -214,8 +214,7 @@ fn type_piece(
     let mut i = 0;
     while i < piece.len() {
         typed = type_byte(
-            rt,
-            file, places, lefts, rights, prefixes, area, typed, piece[i], each, bytes, codes,
+            rt, file, places, lefts, rights, prefixes, area, typed, piece[i], each, bytes, codes,
             counts,
         )?;
         i += 1;
@@ -306,9 +305,8 @@ fn type_input(
             return Ok(typed);
         }
         typed = type_buffer(
-            rt,
-            file, places, lefts, rights, prefixes, area, typed, &buffer, size, each, bytes, codes,
-            counts,
+            rt, file, places, lefts, rights, prefixes, area, typed, &buffer, size, each, bytes,
+            codes, counts,
         )?;
         turns -= 1;
     }
@@ -331,7 +329,10 @@ fn say_agreement(rt: &impl Print, len: usize, sent: &[u32], counted: usize) -> i
     say_number(rt, sent.len() as u64)?;
     say(rt, b", counted ")?;
     say_number(rt, counted as u64)?;
-    say(rt, b". Do not send with this program; report the file and the text.\nresult: typed bytes=")?;
+    say(
+        rt,
+        b". Do not send with this program; report the file and the text.\nresult: typed bytes=",
+    )?;
     say_number(rt, len as u64)?;
     say_fields(rt, counted)?;
     say(rt, b" agree=no\n")
@@ -404,7 +405,6 @@ pub(crate) fn type_text(
         file, places, lefts, rights, prefixes, area, typed.len, &bytes, &codes, &counts,
     );
     finish(
-        rt,
-        file, places, lefts, rights, prefixes, area, typed, each, &bytes, counted,
+        rt, file, places, lefts, rights, prefixes, area, typed, each, &bytes, counted,
     )
 }

@@ -1,6 +1,6 @@
 // `phrases help`
-use words::say;
 use std::io;
+use words::say;
 
 // What the program is, and the commands over a file and a text.
 fn say_first_commands(rt: &impl Print) -> io::Result<()> {

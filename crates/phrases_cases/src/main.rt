@@ -2,10 +2,9 @@
 // program. README.md says what a line may hold.
 #![tactic(auto)]
 
-use std::fs;
-use std::io;
 use std::io::{Read, Write};
 use std::rt::Files;
+use std::{fs, io};
 use tool_io::read_full;
 use words::{Parsed, after, back, front, is, number, put, put_all, say, until};
 

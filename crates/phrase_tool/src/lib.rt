@@ -1,9 +1,9 @@
 // The commands of the program `phrases`. Each prints its answer to standard output; the last line begins with
-// `result:`. A script reads that line, because a Rattle program has no exit status. A text is taken byte for byte, a
-// line end at its end included: the handset sends what was typed. No command takes long enough to show progress. The
-// page, of half a million bytes, stands in a function of its own, since each step beside it is proved with the array in
-// view. The tool is four crates and not one, since `rt` proves a level at a time and a core stood idle beside the one
-// long crate.
+// `result:`. A script reads that line; the exit status tells no more than whether all was printed. A text is taken byte
+// for byte, a line end at its end included: the handset sends what was typed. No command takes long enough to show
+// progress. The page, of half a million bytes, stands in a function of its own, since each step beside it is proved
+// with the array in view. The tool is four crates and not one, since `rt` proves a level at a time and a core stood
+// idle beside the one long crate.
 #![tactic(auto)]
 
 mod bursts;

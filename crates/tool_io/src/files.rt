@@ -5,7 +5,7 @@ ghost use Rattle.std.specs.Io.{ReadsAtMost};
 ghost use Rattle.tool_io.specs.Files.{Read};
 
 use crate::saying::say_quoted;
-use std::fs::{OpenOptions, Permissions};
+use std::fs::{OpenFile, OpenOptions, Permissions};
 use std::io::{ErrorKind, Write};
 use std::os::unix::fs::{OpenOptionsExt, PermissionsExt};
 use std::rt::Files;
@@ -148,8 +148,8 @@ fn create_temporary<R: Files>(rt: &R, temporary: &str) -> io::Result<R::File> {
         .open(rt, temporary)
 }
 
-// Writes all of the bytes to a new file, sees that they reach the device, and lets everyone read it.
-fn fill(file: &mut (impl Write + fs::OpenFile), bytes: &[u8]) -> io::Result<()> {
+// Writes all of the bytes to a new file, sees that they reach the device, lets everyone read it, and closes it.
+fn fill<F: Write + OpenFile + Drop>(mut file: F, bytes: &[u8]) -> io::Result<()> {
     file.write_all(bytes)?;
     file.sync_all()?;
     let _ = file.set_permissions(Permissions::from_mode(0o644));
@@ -160,12 +160,12 @@ fn fill(file: &mut (impl Write + fs::OpenFile), bytes: &[u8]) -> io::Result<()> 
 // it.
 fn fill_and_rename<R: Files>(
     rt: &R,
-    mut file: R::File,
+    file: R::File,
     temporary: &str,
     path: &str,
     bytes: &[u8],
 ) -> io::Result<()> {
-    fill(&mut file, bytes)?;
+    fill(file, bytes)?;
     fs::rename(rt, temporary, path)
 }
 

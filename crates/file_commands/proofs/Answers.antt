@@ -1,6 +1,5 @@
 -- What each answer of loading says. Assumes nothing.
 use Rattle.std.proofs.Common.{◌≡◌, ℕ, ◌≤◌, arith}
-use Rattle.file_commands.specs.declared.loading.Loaded.{Loaded}
 use Rattle.file_commands.specs.declared.loading.Loaded.TheVariants.{Size, Nothing}
 use Rattle.file_commands.specs.Loading.{Loads}
 

@@ -1,8 +1,10 @@
 // From the name of a phrase file to its tables, for all commands.
-ghost use Rattle.std.specs.Prelude.{◌≤◌};
+ghost use Rattle.std.specs.Prelude.{◌≤◌, IfOk};
 ghost use Rattle.file_commands.specs.Loading.{Loads};
 
 use causes::{BuildAnswer, Cause};
+use std::io;
+use std::rt::Files;
 use tool_io::{
     Source, read_named, say_cause_fields, say_cause_result, say_failed, say_quoted, say_refusal,
 };
@@ -63,30 +65,31 @@ pub(crate) fn find_factor(
 }
 
 // The end of a clash's refusal: a factor that helps, or 0 if none of those tried does, for people and for a script.
-fn say_factor(cause: Cause, name: &[u8], factor: u64) {
+fn say_factor(rt: &impl Print, cause: Cause, name: &[u8], factor: u64) -> io::Result<()> {
     if factor == 0 {
         say(
+            rt,
             b"\nnone of the factors 1 to 64 helps: take one of the two words out, or try a larger factor\nresult: ",
-        );
-        say_cause_fields(cause);
-        say(b" factor=none\n");
-        return;
+        )?;
+        say_cause_fields(rt, cause)?;
+        return say(rt, b" factor=none\n");
     }
-    say(b"\nunder factor ");
-    say_number(factor);
-    say(b" no two rows clash: phrases check ");
-    say_quoted(name);
-    say(b" ");
-    say_number(factor);
-    say(b"\nresult: ");
-    say_cause_fields(cause);
-    say(b" factor=");
-    say_number(factor);
-    say(b"\n");
+    say(rt, b"\nunder factor ")?;
+    say_number(rt, factor)?;
+    say(rt, b" no two rows clash: phrases check ")?;
+    say_quoted(rt, name)?;
+    say(rt, b" ")?;
+    say_number(rt, factor)?;
+    say(rt, b"\nresult: ")?;
+    say_cause_fields(rt, cause)?;
+    say(rt, b" factor=")?;
+    say_number(rt, factor)?;
+    say(rt, b"\n")
 }
 
 // A refusal, whole. For a clash the factor that helps is named, if one of those tried does.
 fn say_refused(
+    rt: &impl Print,
     cause: Cause,
     name: &[u8],
     file: &[u8],
@@ -96,18 +99,18 @@ fn say_refused(
     rights: &mut Table,
     prefixes: &mut Table,
     area: &mut Area,
-) {
-    say_refusal(cause, file, factor);
+) -> io::Result<()> {
+    say_refusal(rt, cause, file, factor)?;
     if !wants_factor(BuildAnswer::Refused(cause)) {
-        say_cause_result(cause);
-        return;
+        return say_cause_result(rt, cause);
     }
     let other = find_factor(file, places, lefts, rights, prefixes, area);
-    say_factor(cause, name, other);
+    say_factor(rt, cause, name, other)
 }
 
 // Builds the file of this name with a factor, and says the refusal, if it is one.
 pub(crate) fn build(
+    rt: &impl Print,
     name: &[u8],
     file: &[u8],
     factor: u64,
@@ -116,39 +119,43 @@ pub(crate) fn build(
     rights: &mut Table,
     prefixes: &mut Table,
     area: &mut Area,
-) -> BuildAnswer {
+) -> io::Result<BuildAnswer> {
     let answer = dictionary::from_dictionary(file, factor, places, lefts, rights, prefixes, area);
     match answer {
         BuildAnswer::Rows(_) => {}
         BuildAnswer::Refused(cause) => {
             say_refused(
-                cause, name, file, factor, places, lefts, rights, prefixes, area,
-            )
+                rt, cause, name, file, factor, places, lefts, rights, prefixes, area,
+            )?
         }
     }
-    answer
+    Ok(answer)
 }
 
 // A file of more than 65,536 bytes: cause 2.
-fn say_large() {
+fn say_large(rt: &impl Print) -> io::Result<()> {
     let cause = Cause::BadRecord(65536);
-    say_refusal(cause, b"", 1);
-    say_cause_result(cause);
+    say_refusal(rt, cause, b"", 1)?;
+    say_cause_result(rt, cause)
 }
 
 // Reads a phrase file, or says why it cannot.
-pub(crate) fn read_file(name: &[u8], file: &mut File) -> Loaded
-    ensures { Loads result }
+pub(crate) fn read_file(
+    rt: &(impl Files + Print),
+    name: &[u8],
+    file: &mut File,
+) -> io::Result<Loaded>
+    ensures { IfOk result Loads }
 {
-    match read_named(name, file) {
-        Source::Bytes(size) => Loaded::Size(size),
+    match read_named(rt, name, file) {
+        Source::Bytes(size) => Ok(Loaded::Size(size)),
         Source::Over => {
-            say_large();
-            Loaded::Nothing
+            say_large(rt)?;
+            Ok(Loaded::Nothing)
         }
         Source::Failed(error) => {
-            say_failed(b"FILE", name, error);
-            Loaded::Nothing
+            say_failed(rt, b"FILE", name, error)?;
+            Ok(Loaded::Nothing)
         }
     }
 }
@@ -171,6 +178,7 @@ fn usual_factor(
 
 // Builds the file at the front of a buffer, with the usual factor; whether it was accepted.
 fn build_usual(
+    rt: &impl Print,
     name: &[u8],
     buffer: &File,
     size: usize,
@@ -179,20 +187,23 @@ fn build_usual(
     rights: &mut Table,
     prefixes: &mut Table,
     area: &mut Area,
-) -> Loaded
+) -> io::Result<Loaded>
     requires { size ≤ 65536 }
-    ensures { Loads result }
+    ensures { IfOk result Loads }
 {
     let file = front(buffer, size);
     let factor = usual_factor(file, places, lefts, rights, prefixes, area);
-    match build(name, file, factor, places, lefts, rights, prefixes, area) {
-        BuildAnswer::Rows(_) => Loaded::Size(size),
-        BuildAnswer::Refused(_) => Loaded::Nothing,
+    match build(
+        rt, name, file, factor, places, lefts, rights, prefixes, area,
+    )? {
+        BuildAnswer::Rows(_) => Ok(Loaded::Size(size)),
+        BuildAnswer::Refused(_) => Ok(Loaded::Nothing),
     }
 }
 
 // Reads and builds a phrase file, or says why it cannot.
 pub fn load(
+    rt: &(impl Files + Print),
     name: &[u8],
     file: &mut File,
     places: &mut Table,
@@ -200,11 +211,13 @@ pub fn load(
     rights: &mut Table,
     prefixes: &mut Table,
     area: &mut Area,
-) -> Loaded
-    ensures { Loads result }
+) -> io::Result<Loaded>
+    ensures { IfOk result Loads }
 {
-    match read_file(name, file) {
-        Loaded::Size(size) => build_usual(name, file, size, places, lefts, rights, prefixes, area),
-        Loaded::Nothing => Loaded::Nothing,
+    match read_file(rt, name, file)? {
+        Loaded::Size(size) => build_usual(
+            rt, name, file, size, places, lefts, rights, prefixes, area,
+        ),
+        Loaded::Nothing => Ok(Loaded::Nothing),
     }
 }

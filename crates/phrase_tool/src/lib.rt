@@ -1,9 +1,11 @@
 // The commands of the program `phrases`. Each prints its answer to standard output; the last line begins with
-// `result:`. A script reads that line, because a Rattle program has no exit status. A text is taken byte for byte, a
-// line end at its end included: the handset sends what was typed. No command takes long enough to show progress. The
-// page, of half a million bytes, stands in a function of its own, since each step beside it is proved with the array in
-// view. The tool is four crates and not one, since `rt` proves a level at a time and a core stood idle beside the one
-// long crate.
+// `result:`. A script reads that line; the exit status tells no more than whether all was printed. A text is taken byte
+// for byte, a line end at its end included: the handset sends what was typed. No command takes long enough to show
+// progress. The page, of half a million bytes, stands in a function of its own, since each step beside it is proved
+// with the array in view. The tool is four crates and not one, since `rt` proves a level at a time and a core stood
+// idle beside the one long crate.
+#![tactic(auto)]
+
 mod bursts;
 mod command_line;
 mod decoding;
@@ -18,6 +20,9 @@ mod usage;
 use crate::command_line::{word, word_count};
 use crate::texts::{Given, read_numbers, read_text};
 use file_commands::{Loaded, load};
+use std::io;
+use std::io::Read;
+use std::rt::Files;
 use tool_io::{say_error_result, say_quoted};
 use usage::help;
 use words::{front, is, say, say_number};
@@ -32,27 +37,28 @@ type Area = [u32; 16384];
 type Text = [u8; 65536];
 
 // A wrong number of arguments.
-fn say_usage(command: &[u8], arguments: &[u8], given: usize) {
-    say(b"error: ");
-    say(command);
-    say(b" takes ");
-    say(arguments);
-    say(b"; arguments given: ");
-    say_number(given as u64);
-    say(b"; see phrases help");
-    say_error_result(b"count");
+fn say_usage(rt: &impl Print, command: &[u8], arguments: &[u8], given: usize) -> io::Result<()> {
+    say(rt, b"error: ")?;
+    say(rt, command)?;
+    say(rt, b" takes ")?;
+    say(rt, arguments)?;
+    say(rt, b"; arguments given: ")?;
+    say_number(rt, given as u64)?;
+    say(rt, b"; see phrases help")?;
+    say_error_result(rt, b"count")
 }
 
 // A word that is no command.
-fn say_unknown(command: &[u8]) {
-    say(b"error: ");
-    say_quoted(command);
-    say(b" is no command; see phrases help");
-    say_error_result(b"command");
+fn say_unknown(rt: &impl Print, command: &[u8]) -> io::Result<()> {
+    say(rt, b"error: ")?;
+    say_quoted(rt, command)?;
+    say(rt, b" is no command; see phrases help")?;
+    say_error_result(rt, b"command")
 }
 
 // `decode FILE TEXT`, with the text at the front of a buffer.
 fn decode_buffer(
+    rt: &impl Print,
     file: &[u8],
     places: &Table,
     lefts: &Table,
@@ -62,8 +68,9 @@ fn decode_buffer(
     name: &[u8],
     buffer: &Text,
     size: usize,
-) {
+) -> io::Result<()> {
     crate::decoding::decode(
+        rt,
         file,
         places,
         lefts,
@@ -72,11 +79,12 @@ fn decode_buffer(
         area,
         name,
         front(buffer, size),
-    );
+    )
 }
 
 // `decode FILE TEXT`
 fn run_decode(
+    rt: &(impl Files + Print),
     file: &[u8],
     places: &Table,
     lefts: &Table,
@@ -84,20 +92,21 @@ fn run_decode(
     prefixes: &Table,
     area: &Area,
     name: &[u8],
-    input: i32,
-) {
+    input: &mut impl Read,
+) -> io::Result<()> {
     let mut buffer = [0u8; 65536];
-    match read_numbers(name, input, &mut buffer) {
+    match read_numbers(rt, name, input, &mut buffer)? {
         Given::Size(size) => decode_buffer(
-            file, places, lefts, rights, prefixes, area, name, &buffer, size,
+            rt, file, places, lefts, rights, prefixes, area, name, &buffer, size,
         ),
-        Given::Nothing => {}
+        Given::Nothing => Ok(()),
     }
 }
 
 // The commands over a text to send, which stands at the front of a buffer: `encode`, `count`, `shortest`, and with one
 // argument more `show` (the name of the page) and `fits` (the number of bursts).
 fn send_buffer(
+    rt: &(impl Files + Print),
     command: &[u8],
     more: &[u8],
     file: &[u8],
@@ -108,29 +117,26 @@ fn send_buffer(
     area: &Area,
     buffer: &Text,
     size: usize,
-) {
+) -> io::Result<()> {
     let text = front(buffer, size);
     if is(command, b"encode") {
-        crate::sending::encode(file, places, lefts, rights, prefixes, area, text);
-        return;
+        return crate::sending::encode(rt, file, places, lefts, rights, prefixes, area, text);
     }
     if is(command, b"shortest") {
-        crate::sending::shortest(file, places, lefts, rights, prefixes, area, text);
-        return;
+        return crate::sending::shortest(rt, file, places, lefts, rights, prefixes, area, text);
     }
     if is(command, b"show") {
-        crate::showing::show(file, places, lefts, rights, prefixes, area, text, more);
-        return;
+        return crate::showing::show(rt, file, places, lefts, rights, prefixes, area, text, more);
     }
     if is(command, b"fits") {
-        crate::fitting::fits(file, places, lefts, rights, prefixes, area, text, more);
-        return;
+        return crate::fitting::fits(rt, file, places, lefts, rights, prefixes, area, text, more);
     }
-    crate::sending::count(file, places, lefts, rights, prefixes, area, text);
+    crate::sending::count(rt, file, places, lefts, rights, prefixes, area, text)
 }
 
 // The same, once the text is read.
 fn run_text(
+    rt: &(impl Files + Print),
     command: &[u8],
     line: &[u8],
     file: &[u8],
@@ -139,11 +145,12 @@ fn run_text(
     rights: &Table,
     prefixes: &Table,
     area: &Area,
-    input: i32,
-) {
+    input: &mut impl Read,
+) -> io::Result<()> {
     let mut buffer = [0u8; 65536];
-    match read_text(word(line, 2), input, &mut buffer) {
+    match read_text(rt, word(line, 2), input, &mut buffer)? {
         Given::Size(size) => send_buffer(
+            rt,
             command,
             word(line, 3),
             file,
@@ -155,12 +162,13 @@ fn run_text(
             &buffer,
             size,
         ),
-        Given::Nothing => {}
+        Given::Nothing => Ok(()),
     }
 }
 
 // The commands over a text or codes that are to be read.
 fn run_given(
+    rt: &(impl Files + Print),
     command: &[u8],
     line: &[u8],
     file: &[u8],
@@ -169,10 +177,11 @@ fn run_given(
     rights: &Table,
     prefixes: &Table,
     area: &Area,
-    input: i32,
-) {
+    input: &mut impl Read,
+) -> io::Result<()> {
     if is(command, b"decode") {
-        run_decode(
+        return run_decode(
+            rt,
             file,
             places,
             lefts,
@@ -182,15 +191,15 @@ fn run_given(
             word(line, 2),
             input,
         );
-        return;
     }
     run_text(
-        command, line, file, places, lefts, rights, prefixes, area, input,
-    );
+        rt, command, line, file, places, lefts, rights, prefixes, area, input,
+    )
 }
 
 // The commands over an accepted phrase file, which stands at the front of a buffer.
 fn run_built(
+    rt: &(impl Files + Print),
     command: &[u8],
     line: &[u8],
     buffer: &Text,
@@ -200,16 +209,18 @@ fn run_built(
     rights: &Table,
     prefixes: &Table,
     area: &Area,
-    input: i32,
+    input: &mut impl Read,
     each: bool,
-) {
+) -> io::Result<()> {
     let file = front(buffer, size);
     if is(command, b"type") {
-        crate::typing_command::type_text(file, places, lefts, rights, prefixes, area, input, each);
-        return;
+        return crate::typing_command::type_text(
+            rt, file, places, lefts, rights, prefixes, area, input, each,
+        );
     }
     if is(command, b"why") {
-        crate::pairs::why(
+        return crate::pairs::why(
+            rt,
             file,
             places,
             lefts,
@@ -219,15 +230,20 @@ fn run_built(
             word(line, 2),
             word(line, 3),
         );
-        return;
     }
     run_given(
-        command, line, file, places, lefts, rights, prefixes, area, input,
-    );
+        rt, command, line, file, places, lefts, rights, prefixes, area, input,
+    )
 }
 
 // Loads the phrase file, and does a command over it.
-fn run_loaded(command: &[u8], line: &[u8], input: i32, each: bool) {
+fn run_loaded(
+    rt: &(impl Files + Print),
+    command: &[u8],
+    line: &[u8],
+    input: &mut impl Read,
+    each: bool,
+) -> io::Result<()> {
     let mut file = [0u8; 65536];
     let mut places = [0u32; 4096];
     let mut lefts = [0u32; 4096];
@@ -235,6 +251,7 @@ fn run_loaded(command: &[u8], line: &[u8], input: i32, each: bool) {
     let mut prefixes = [0u32; 4096];
     let mut area = [0u32; 16384];
     match load(
+        rt,
         word(line, 1),
         &mut file,
         &mut places,
@@ -242,103 +259,131 @@ fn run_loaded(command: &[u8], line: &[u8], input: i32, each: bool) {
         &mut rights,
         &mut prefixes,
         &mut area,
-    ) {
+    )? {
         Loaded::Size(size) => run_built(
-            command, line, &file, size, &places, &lefts, &rights, &prefixes, &area, input, each,
+            rt, command, line, &file, size, &places, &lefts, &rights, &prefixes, &area, input, each,
         ),
-        Loaded::Nothing => {}
+        Loaded::Nothing => Ok(()),
     }
 }
 
 // Whether the number of arguments is right; if not, it is said.
-fn takes(command: &[u8], arguments: &[u8], least: usize, most: usize, given: usize) -> bool {
+fn takes(
+    rt: &impl Print,
+    command: &[u8],
+    arguments: &[u8],
+    least: usize,
+    most: usize,
+    given: usize,
+) -> io::Result<bool> {
     if least <= given && given <= most {
-        return true;
+        return Ok(true);
     }
-    say_usage(command, arguments, given);
-    false
+    say_usage(rt, command, arguments, given)?;
+    Ok(false)
 }
 
 // Does a command that takes FILE and TEXT, if it is one.
-fn run_sending(command: &[u8], line: &[u8], given: usize, input: i32) -> bool {
+fn run_sending(
+    rt: &(impl Files + Print),
+    command: &[u8],
+    line: &[u8],
+    given: usize,
+    input: &mut impl Read,
+) -> io::Result<bool> {
     if !(is(command, b"encode")
         || is(command, b"count")
         || is(command, b"shortest")
         || is(command, b"decode"))
     {
-        return false;
+        return Ok(false);
     }
-    if takes(command, b"FILE TEXT", 2, 2, given) {
-        run_loaded(command, line, input, false);
+    if takes(rt, command, b"FILE TEXT", 2, 2, given)? {
+        run_loaded(rt, command, line, input, false)?;
     }
-    true
+    Ok(true)
 }
 
 // Does one of the other commands over a phrase file, if it is one.
-fn run_other(command: &[u8], line: &[u8], given: usize, input: i32, each: bool) -> bool {
+fn run_other(
+    rt: &(impl Files + Print),
+    command: &[u8],
+    line: &[u8],
+    given: usize,
+    input: &mut impl Read,
+    each: bool,
+) -> io::Result<bool> {
     if is(command, b"type") {
-        if takes(command, b"FILE", 1, 1, given) {
-            run_loaded(command, line, input, each);
+        if takes(rt, command, b"FILE", 1, 1, given)? {
+            run_loaded(rt, command, line, input, each)?;
         }
-        return true;
+        return Ok(true);
     }
     if is(command, b"why") {
-        if takes(command, b"FILE ROW ROW", 3, 3, given) {
-            run_loaded(command, line, input, false);
+        if takes(rt, command, b"FILE ROW ROW", 3, 3, given)? {
+            run_loaded(rt, command, line, input, false)?;
         }
-        return true;
+        return Ok(true);
     }
     if is(command, b"show") {
-        if takes(command, b"FILE TEXT OUT", 3, 3, given) {
-            run_loaded(command, line, input, false);
+        if takes(rt, command, b"FILE TEXT OUT", 3, 3, given)? {
+            run_loaded(rt, command, line, input, false)?;
         }
-        return true;
+        return Ok(true);
     }
     if is(command, b"fits") {
-        if takes(command, b"FILE TEXT BURSTS", 3, 3, given) {
-            run_loaded(command, line, input, false);
+        if takes(rt, command, b"FILE TEXT BURSTS", 3, 3, given)? {
+            run_loaded(rt, command, line, input, false)?;
         }
-        return true;
+        return Ok(true);
     }
-    run_making(command, line, given)
+    run_making(rt, command, line, given)
 }
 
 // Does one of the commands that make or check a phrase file, if it is one.
-fn run_making(command: &[u8], line: &[u8], given: usize) -> bool {
+fn run_making(
+    rt: &(impl Files + Print),
+    command: &[u8],
+    line: &[u8],
+    given: usize,
+) -> io::Result<bool> {
     if is(command, b"check") {
-        if takes(command, b"FILE [FACTOR]", 1, 2, given) {
-            file_commands::check(word(line, 1), word(line, 2), 2 <= given);
+        if takes(rt, command, b"FILE [FACTOR]", 1, 2, given)? {
+            file_commands::check(rt, word(line, 1), word(line, 2), 2 <= given)?;
         }
-        return true;
+        return Ok(true);
     }
     if is(command, b"sheet") {
-        if takes(command, b"SHEET OUT", 2, 2, given) {
-            file_commands::make_phrase_file(word(line, 1), word(line, 2));
+        if takes(rt, command, b"SHEET OUT", 2, 2, given)? {
+            file_commands::make_phrase_file(rt, word(line, 1), word(line, 2))?;
         }
-        return true;
+        return Ok(true);
     }
-    false
+    Ok(false)
 }
 
-// Runs a command line: the command and its arguments, each word ended by a byte 0. `input` is the descriptor of
-// standard input; `each` says whether `type` shows the count after each byte.
-pub fn run(line: &[u8], input: i32, each: bool) {
+// Runs a command line: the command and its arguments, each word ended by a byte 0. `input` is standard input;
+// `each` says whether `type` shows the count after each byte.
+pub fn run(
+    rt: &(impl Files + Print),
+    line: &[u8],
+    input: &mut impl Read,
+    each: bool,
+) -> io::Result<()> {
     let count = word_count(line);
     if count == 0 {
-        help();
-        return;
+        return help(rt);
     }
     let command = word(line, 0);
     if is(command, b"help") {
-        help();
-        return;
+        return help(rt);
     }
     let given = count - 1;
-    if run_sending(command, line, given, input) {
-        return;
+    if run_sending(rt, command, line, given, input)? {
+        return Ok(());
     }
-    if run_other(command, line, given, input, each) {
-        return;
+    if run_other(rt, command, line, given, input, each)? {
+        return Ok(());
     }
-    say_unknown(command);
+    say_unknown(rt, command)
 }

@@ -2,6 +2,8 @@
 // slice of records are the same calls, and a function around them is not covered by the borrow checker.
 use crate::bursts::{say_bursts, say_fields};
 use causes::Answer;
+use std::io;
+use std::io::Read;
 use tool_io::{say_byte, say_codes, say_many};
 use typing_columns::Side;
 use words::{front, front_numbers, say, say_number};
@@ -32,7 +34,7 @@ fn held(answer: Answer) -> usize {
 
 // One more, as a number that is shown.
 fn more(n: usize) -> usize {
-    std::num::wrapping_add_usize(n, 1)
+    n.wrapping_add(1)
 }
 
 // The length after a backspace: truncate by one byte.
@@ -130,35 +132,36 @@ fn count(
 }
 
 // What is shown: the length, the count, the bursts, and the bytes that had no room.
-fn say_typed(len: usize, count: usize, refused: usize) {
-    say_many(len, b"byte");
-    say(b", ");
-    say_bursts(count);
+fn say_typed(rt: &impl Print, len: usize, count: usize, refused: usize) -> io::Result<()> {
+    say_many(rt, len, b"byte")?;
+    say(rt, b", ")?;
+    say_bursts(rt, count)?;
     if refused != 0 {
-        say(b"; FULL: ");
-        say_many(refused, b"byte");
-        say(b" not taken, a text has at most 4096");
+        say(rt, b"; FULL: ")?;
+        say_many(rt, refused, b"byte")?;
+        say(rt, b" not taken, a text has at most 4096")?;
     }
-    say(b"\n");
+    say(rt, b"\n")
 }
 
 // The line that is shown when an input line ends.
-fn end_line(typed: Typed, count: usize) -> Typed {
+fn end_line(rt: &impl Print, typed: Typed, count: usize) -> io::Result<Typed> {
     let lines = more(typed.lines);
-    say(b"line ");
-    say_number(lines as u64);
-    say(b": ");
-    say_typed(typed.len, count, typed.refused);
-    Typed {
+    say(rt, b"line ")?;
+    say_number(rt, lines as u64)?;
+    say(rt, b": ")?;
+    say_typed(rt, typed.len, count, typed.refused)?;
+    Ok(Typed {
         len: typed.len,
         lines,
         open: 0,
         refused: typed.refused,
-    }
+    })
 }
 
 // Types a byte, and shows the count after it, or after an input line.
 fn type_byte(
+    rt: &impl Print,
     file: &[u8],
     places: &[u32],
     lefts: &[u32],
@@ -171,28 +174,29 @@ fn type_byte(
     bytes: &mut Bytes,
     codes: &mut Table,
     counts: &mut Table,
-) -> Typed {
+) -> io::Result<Typed> {
     let typed = push(
         file, places, lefts, rights, prefixes, area, before, byte, bytes, codes, counts,
     );
     if !each && byte != b'\n' {
-        return typed;
+        return Ok(typed);
     }
     let n = count(
         file, places, lefts, rights, prefixes, area, typed.len, bytes, codes, counts,
     );
     if each {
-        say(b"'");
-        say_byte(byte);
-        say(b"': ");
-        say_typed(typed.len, n, typed.refused);
-        return typed;
+        say(rt, b"'")?;
+        say_byte(rt, byte)?;
+        say(rt, b"': ")?;
+        say_typed(rt, typed.len, n, typed.refused)?;
+        return Ok(typed);
     }
-    end_line(typed, n)
+    end_line(rt, typed, n)
 }
 
 // Types the bytes of a piece of input.
 fn type_piece(
+    rt: &impl Print,
     file: &[u8],
     places: &[u32],
     lefts: &[u32],
@@ -205,21 +209,22 @@ fn type_piece(
     bytes: &mut Bytes,
     codes: &mut Table,
     counts: &mut Table,
-) -> Typed {
+) -> io::Result<Typed> {
     let mut typed = before;
     let mut i = 0;
     while i < piece.len() {
         typed = type_byte(
-            file, places, lefts, rights, prefixes, area, typed, piece[i], each, bytes, codes,
+            rt, file, places, lefts, rights, prefixes, area, typed, piece[i], each, bytes, codes,
             counts,
-        );
+        )?;
         i += 1;
     }
-    typed
+    Ok(typed)
 }
 
 // The same of the first bytes of a buffer.
 fn type_buffer(
+    rt: &impl Print,
     file: &[u8],
     places: &[u32],
     lefts: &[u32],
@@ -233,8 +238,9 @@ fn type_buffer(
     bytes: &mut Bytes,
     codes: &mut Table,
     counts: &mut Table,
-) -> Typed {
+) -> io::Result<Typed> {
     type_piece(
+        rt,
         file,
         places,
         lefts,
@@ -250,10 +256,12 @@ fn type_buffer(
     )
 }
 
-// Reads once, and gives how many bytes came.
-fn read_some(input: i32, buffer: &mut Bytes) -> usize {
-    let got = libc::read(input, buffer);
-    io::count(got, buffer)
+// Reads once, and gives how many bytes came; an input that cannot be read has ended.
+fn read_some(input: &mut impl Read, buffer: &mut Bytes) -> usize {
+    match input.read(buffer) {
+        Ok(size) => size,
+        Err(_) => 0,
+    }
 }
 
 // Whether the first byte of what was read ends the input: Control-D, from a terminal that hands over each byte.
@@ -267,18 +275,19 @@ fn ends(each: bool, byte: u8) -> bool {
 // Reads and types until the input ends. A proved loop has to end, and nothing says that an input does: turns are
 // counted down from a number that no run uses up.
 fn type_input(
+    rt: &impl Print,
     file: &[u8],
     places: &[u32],
     lefts: &[u32],
     rights: &[u32],
     prefixes: &[u32],
     area: &[u32],
-    input: i32,
+    input: &mut impl Read,
     each: bool,
     bytes: &mut Bytes,
     codes: &mut Table,
     counts: &mut Table,
-) -> Typed {
+) -> io::Result<Typed> {
     let mut typed = Typed {
         len: 0,
         lines: 0,
@@ -290,45 +299,48 @@ fn type_input(
     while turns > 0 {
         let size = read_some(input, &mut buffer);
         if size == 0 {
-            return typed;
+            return Ok(typed);
         }
         if ends(each, buffer[0]) {
-            return typed;
+            return Ok(typed);
         }
         typed = type_buffer(
-            file, places, lefts, rights, prefixes, area, typed, &buffer, size, each, bytes, codes,
-            counts,
-        );
+            rt, file, places, lefts, rights, prefixes, area, typed, &buffer, size, each, bytes,
+            codes, counts,
+        )?;
         turns -= 1;
     }
-    typed
+    Ok(typed)
 }
 
 // The codes as sent, and whether their number is the counter's.
-fn say_agreement(len: usize, sent: &[u32], counted: usize) {
-    say(b"sent: ");
-    say_codes(sent);
+fn say_agreement(rt: &impl Print, len: usize, sent: &[u32], counted: usize) -> io::Result<()> {
+    say(rt, b"sent: ")?;
+    say_codes(rt, sent)?;
     if sent.len() == counted {
-        say(b"\nsender and counter agree: ");
-        say_bursts(counted);
-        say(b"\nresult: typed bytes=");
-        say_number(len as u64);
-        say_fields(counted);
-        say(b" agree=yes\n");
-        return;
+        say(rt, b"\nsender and counter agree: ")?;
+        say_bursts(rt, counted)?;
+        say(rt, b"\nresult: typed bytes=")?;
+        say_number(rt, len as u64)?;
+        say_fields(rt, counted)?;
+        return say(rt, b" agree=yes\n");
     }
-    say(b"\nSENDER AND COUNTER DISAGREE: sent ");
-    say_number(sent.len() as u64);
-    say(b", counted ");
-    say_number(counted as u64);
-    say(b". Do not send with this program; report the file and the text.\nresult: typed bytes=");
-    say_number(len as u64);
-    say_fields(counted);
-    say(b" agree=no\n");
+    say(rt, b"\nSENDER AND COUNTER DISAGREE: sent ")?;
+    say_number(rt, sent.len() as u64)?;
+    say(rt, b", counted ")?;
+    say_number(rt, counted as u64)?;
+    say(
+        rt,
+        b". Do not send with this program; report the file and the text.\nresult: typed bytes=",
+    )?;
+    say_number(rt, len as u64)?;
+    say_fields(rt, counted)?;
+    say(rt, b" agree=no\n")
 }
 
 // The end: the line that is still open, then the codes as sent.
 fn finish(
+    rt: &impl Print,
     file: &[u8],
     places: &[u32],
     lefts: &[u32],
@@ -339,10 +351,10 @@ fn finish(
     each: bool,
     bytes: &Bytes,
     counted: usize,
-) {
+) -> io::Result<()> {
     let len = typed.len;
     if typed.open != 0 && !each {
-        end_line(typed, counted);
+        end_line(rt, typed, counted)?;
     }
     let mut sent = [0u32; 4096];
     let mut work = [0u32; 4096];
@@ -357,24 +369,26 @@ fn finish(
         &mut sent,
         &mut work,
     );
-    say_agreement(len, front_numbers(&sent, held(answer)), counted);
+    say_agreement(rt, len, front_numbers(&sent, held(answer)), counted)
 }
 
 // The command. `each` says whether the count is shown after each byte, as at a terminal, or after each input line.
 pub(crate) fn type_text(
+    rt: &impl Print,
     file: &[u8],
     places: &[u32],
     lefts: &[u32],
     rights: &[u32],
     prefixes: &[u32],
     area: &[u32],
-    input: i32,
+    input: &mut impl Read,
     each: bool,
-) {
+) -> io::Result<()> {
     let mut bytes = [0u8; 4096];
     let mut codes = [0u32; 4096];
     let mut counts = [0u32; 4096];
     let typed = type_input(
+        rt,
         file,
         places,
         lefts,
@@ -386,11 +400,11 @@ pub(crate) fn type_text(
         &mut bytes,
         &mut codes,
         &mut counts,
-    );
+    )?;
     let counted = count(
         file, places, lefts, rights, prefixes, area, typed.len, &bytes, &codes, &counts,
     );
     finish(
-        file, places, lefts, rights, prefixes, area, typed, each, &bytes, counted,
-    );
+        rt, file, places, lefts, rights, prefixes, area, typed, each, &bytes, counted,
+    )
 }

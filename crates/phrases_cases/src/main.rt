@@ -1,5 +1,11 @@
 // Works through command lines of `phrases`, one on each line of standard input, over the same library function as the
 // program. README.md says what a line may hold.
+#![tactic(auto)]
+
+use std::io::{Read, Write};
+use std::rt::Files;
+use std::{fs, io};
+use tool_io::read_full;
 use words::{Parsed, after, back, front, is, number, put, put_all, say, until};
 
 // What follows the first space of a line.
@@ -60,67 +66,88 @@ fn put_times(text: &[u8], times: u64, out: &mut [u8]) -> usize {
     end
 }
 
+// A name as the system's calls take it: empty where it is not UTF-8.
+fn path_of(name: &[u8]) -> &str {
+    match std::str::from_utf8(name) {
+        Ok(path) => path,
+        Err(_) => "",
+    }
+}
+
 // `write NAME TIMES TEXT`
-fn write(line: &[u8]) {
+fn write(rt: &impl Files, line: &[u8]) -> io::Result<()> {
     let Parsed::Number(times) = number(first(rest(line))) else {
-        return;
+        return Ok(());
     };
     let mut bytes = [0u8; 131072];
     let size = put_times(rest(rest(line)), times, &mut bytes);
-    let fd = os::open_overwrite(first(line));
-    io::write_all(fd, front(&bytes, size));
-    libc::close(fd);
+    let mut file = fs::create(rt, path_of(first(line)))?;
+    file.write_all(front(&bytes, size))
 }
 
 // `print NAME`
-fn print(name: &[u8]) {
+fn print(rt: &(impl Files + Print), name: &[u8]) -> io::Result<()> {
     let mut bytes = [0u8; 131072];
-    let fd = os::open_read(name);
-    let size = io::read_full(fd, &mut bytes);
-    say(front(&bytes, size));
-    libc::close(fd);
+    let mut file = fs::open(rt, path_of(name))?;
+    let size = read_full(&mut file, &mut bytes)?;
+    say(rt, front(&bytes, size))
+}
+
+// The system's error for a file that is not open.
+const NOT_OPEN: i32 = 9;
+
+// A standard input that is not open.
+#[derive(Drop)]
+struct Closed {}
+
+impl Read for Closed {
+    fn read(&mut self, _buf: &mut [u8]) -> io::Result<usize> {
+        Err(io::Error::from_raw_os_error(NOT_OPEN))
+    }
 }
 
 // `phrases WORD ..`, with the file `input` as standard input.
-fn run(line: &[u8], each: bool) {
+fn run(rt: &(impl Files + Print), line: &[u8], each: bool) -> io::Result<()> {
     let mut words = [0u8; 8192];
     let size = put_words(line, &mut words);
-    let input = os::open_read(b"input");
-    phrase_tool::run(front(&words, size), input, each);
-    libc::close(input);
+    match fs::open(rt, "input") {
+        Ok(mut input) => phrase_tool::run(rt, front(&words, size), &mut input, each),
+        Err(_) => phrase_tool::run(rt, front(&words, size), &mut Closed {}, each),
+    }
 }
 
 // Does a line, and gives whether `type` shows the count after each byte from now on.
-fn obey(line: &[u8], each: bool) -> bool {
+fn obey(rt: &(impl Files + Print), line: &[u8], each: bool) -> io::Result<bool> {
     if is(line, b"each byte") {
-        return true;
+        return Ok(true);
     }
     if is(line, b"each line") {
-        return false;
+        return Ok(false);
     }
     if is(first(line), b"write") {
-        write(rest(line));
+        write(rt, rest(line))?;
     }
     if is(first(line), b"print") {
-        print(rest(line));
+        print(rt, rest(line))?;
     }
     if is(first(line), b"phrases") {
-        say(b"> ");
-        say(line);
-        say(b"\n");
-        run(rest(line), each);
+        say(rt, b"> ")?;
+        say(rt, line)?;
+        say(rt, b"\n")?;
+        run(rt, rest(line), each)?;
     }
-    each
+    Ok(each)
 }
 
-fn main() {
+fn main(rt: HostRuntime) -> io::Result<()> {
     let mut input = [0u8; 65536];
-    let size = io::read_full(libc::STDIN_FILENO, &mut input);
+    let size = read_full(&mut rt.stdin(), &mut input)?;
     let lines = front(&input, size);
     let mut each = false;
     let mut at = 0;
     while at < lines.len() {
-        each = obey(until(lines, at, b'\n'), each);
+        each = obey(&rt, until(lines, at, b'\n'), each)?;
         at = after(lines, at, b'\n');
     }
+    Ok(())
 }

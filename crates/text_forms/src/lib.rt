@@ -1,4 +1,6 @@
 // What people read and write: the season's sheet, lists of codes, bursts of 40, and the page of `phrases show`.
+#![tactic(auto)]
+
 mod boxes;
 mod burst_counts;
 mod characters;

@@ -1,17 +1,20 @@
-// Files by name: reading a whole one, writing a whole one, and what is said where that fails.
+// Files by name: reading a whole one, writing a whole one, and what is said where that fails. The system's calls take a
+// name as text, so one that is not UTF-8 is no name of a file.
+ghost use Rattle.std.specs.Prelude.{◌<◌};
+ghost use Rattle.std.specs.Io.{ReadsAtMost};
 ghost use Rattle.tool_io.specs.Files.{Read};
 
 use crate::saying::say_quoted;
+use std::fs::{OpenFile, OpenOptions, Permissions};
+use std::io::{ErrorKind, Write};
+use std::os::unix::fs::{OpenOptionsExt, PermissionsExt};
+use std::rt::Files;
+use std::{fs, io};
 use words::{front, is, put_all, say};
 
 // Whether a text begins with this one.
 fn begins(text: &[u8], start: &[u8]) -> bool {
     is(front(text, start.len()), start)
-}
-
-// The first k bytes to write to, or all if there are fewer.
-fn lent(s: &mut [u8], k: usize) -> &mut [u8] {
-    if s.len() < k { s } else { &mut s[0..k] }
 }
 
 // What reading gave.
@@ -21,198 +24,261 @@ pub enum Source {
     Bytes(usize),
     // More than the buffer holds.
     Over,
-    // The number of the system's error.
-    Failed(i32),
+    // The system's error.
+    Failed(io::Error),
 }
 
 // What writing gave.
 #[derive(Drop)]
 pub enum Written {
     Done,
-    // The number of the system's error.
-    Failed(i32),
+    // The system's error.
+    Failed(io::Error),
 }
 
-// All that a descriptor gives. One more read tells the end from an error and from a longer file; a terminal is not
-// asked again.
-fn read_all(fd: i32, buffer: &mut [u8]) -> Source
+// A name as the system's calls take it.
+fn path_of(name: &[u8]) -> io::Result<&str> {
+    match std::str::from_utf8(name) {
+        Ok(path) => Ok(path),
+        Err(_) => Err(io::Error::from(ErrorKind::InvalidInput)),
+    }
+}
+
+// Reads until the buffer is full or the input ends, and gives how many bytes stand at the front of the buffer.
+pub fn read_full(input: &mut impl io::Read, buffer: &mut [u8]) -> io::Result<usize>
+    ensures { ReadsAtMost result buffer.new }
+{
+    let mut size = 0;
+    while size < buffer.len() {
+        let got = input.read(&mut buffer[size..])?;
+        if got == 0 {
+            return Ok(size);
+        }
+        size += got;
+    }
+    Ok(size)
+}
+
+// All that an input gives. Where the buffer is full, one more read tells the end from a longer input.
+fn read_all(input: &mut impl io::Read, buffer: &mut [u8]) -> Source
     ensures { Read buffer.old buffer.new result }
 {
-    let size = io::read_full(fd, buffer);
-    if 0 < size && libc::isatty(fd) == 1 {
+    let size = match read_full(input, buffer) {
+        Ok(size) => size,
+        Err(error) => return Source::Failed(error),
+    };
+    if size < buffer.len() {
         return Source::Bytes(size);
     }
     let mut more = [0u8; 1];
-    let got = libc::read(fd, &mut more);
-    if got < 0 {
-        return Source::Failed(os::errno());
+    match input.read(&mut more) {
+        Ok(0) => Source::Bytes(size),
+        Ok(_) => Source::Over,
+        Err(error) => Source::Failed(error),
     }
-    if got > 0 {
-        return Source::Over;
-    }
-    Source::Bytes(size)
+}
+
+// Opens a file to be read.
+fn open_named<R: Files>(rt: &R, name: &[u8]) -> io::Result<R::File> {
+    fs::open(rt, path_of(name)?)
 }
 
 // All of a file.
-pub fn read_named(name: &[u8], buffer: &mut [u8]) -> Source
+pub fn read_named(rt: &impl Files, name: &[u8], buffer: &mut [u8]) -> Source
     ensures { Read buffer.old buffer.new result }
 {
-    let fd = os::open_read(name);
-    if fd < 0 {
-        return Source::Failed(os::errno());
+    match open_named(rt, name) {
+        Ok(mut file) => read_all(&mut file, buffer),
+        Err(error) => Source::Failed(error),
     }
-    let got = read_all(fd, buffer);
-    libc::close(fd);
-    got
 }
 
-// All of a text: a file or, for `-`, the standard input, whose descriptor is `input`.
-pub fn read_given(name: &[u8], input: i32, buffer: &mut [u8]) -> Source
+// All of a text: a file or, for `-`, the standard input.
+pub fn read_given(
+    rt: &impl Files,
+    name: &[u8],
+    input: &mut impl io::Read,
+    buffer: &mut [u8],
+) -> Source
     ensures { Read buffer.old buffer.new result }
 {
     if is(name, b"-") {
         return read_all(input, buffer);
     }
-    read_named(name, buffer)
+    read_named(rt, name, buffer)
 }
 
-// Puts a name and `.XXXXXX` at the front of a buffer, and gives their length.
-fn put_temporary(name: &[u8], buffer: &mut [u8]) -> usize {
+// How many names of a temporary file are tried.
+const TRIES: u32 = 1_000_000;
+
+// The decimal digit of a number at a place: 1 for the last one, 10 for the one before it.
+fn digit(n: u32, place: u32) -> u8
+    requires { 0 < place }
+{
+    b'0' + (n / place % 10) as u8
+}
+
+// Puts a name, a dot and six digits at the front of a buffer, and gives their length.
+fn put_temporary(name: &[u8], n: u32, buffer: &mut [u8]) -> usize {
     let end = put_all(buffer, 0, name);
-    put_all(buffer, end, b".XXXXXX")
-}
-
-// Writes all of the bytes to a descriptor, and sees that they reach the device.
-fn fill(fd: i32, bytes: &[u8]) -> bool {
-    if !io::write_all(fd, bytes) {
-        return false;
-    }
-    libc::fsync(fd) == 0
+    let digits = [
+        b'.',
+        digit(n, 100_000),
+        digit(n, 10_000),
+        digit(n, 1_000),
+        digit(n, 100),
+        digit(n, 10),
+        digit(n, 1),
+    ];
+    put_all(buffer, end, &digits)
 }
 
 // Writes to a name under /dev/, as /dev/stdout: there is nothing to rename.
-fn write_device(name: &[u8], bytes: &[u8]) -> Written {
-    let fd = os::open_overwrite(name);
-    if fd < 0 {
-        return Written::Failed(os::errno());
-    }
-    if !io::write_all(fd, bytes) {
-        let error = os::errno();
-        libc::close(fd);
-        return Written::Failed(error);
-    }
-    libc::close(fd);
-    Written::Done
+fn write_device(rt: &impl Files, path: &str, bytes: &[u8]) -> io::Result<()> {
+    let mut file = fs::create(rt, path)?;
+    file.write_all(bytes)
 }
 
-// Removes a temporary file, and hands on why.
-fn removed(temporary: &[u8], error: i32) -> Written {
-    os::unlink(temporary);
-    Written::Failed(error)
+// Makes a file that is not there yet, for its owner alone.
+fn create_temporary<R: Files>(rt: &R, temporary: &str) -> io::Result<R::File> {
+    OpenOptions::new()
+        .write(true)
+        .create_new(true)
+        .mode(0o600)
+        .open(rt, temporary)
 }
 
-// Writes a temporary file to a descriptor and gives it the name that it is to have, so that under that name there is
-// never a part of it.
-fn write_temporary(fd: i32, temporary: &[u8], name: &[u8], bytes: &[u8]) -> Written {
-    if !fill(fd, bytes) {
-        let error = os::errno();
-        libc::close(fd);
-        return removed(temporary, error);
+// Writes all of the bytes to a new file, sees that they reach the device, lets everyone read it, and closes it.
+fn fill<F: Write + OpenFile + Drop>(mut file: F, bytes: &[u8]) -> io::Result<()> {
+    file.write_all(bytes)?;
+    file.sync_all()?;
+    let _ = file.set_permissions(Permissions::from_mode(0o644));
+    Ok(())
+}
+
+// Writes a temporary file and gives it the name that it is to have, so that under that name there is never a part of
+// it.
+fn fill_and_rename<R: Files>(
+    rt: &R,
+    file: R::File,
+    temporary: &str,
+    path: &str,
+    bytes: &[u8],
+) -> io::Result<()> {
+    fill(file, bytes)?;
+    fs::rename(rt, temporary, path)
+}
+
+// The same; where it fails, the temporary file is removed, and the error handed on.
+fn write_temporary<R: Files>(
+    rt: &R,
+    file: R::File,
+    temporary: &str,
+    path: &str,
+    bytes: &[u8],
+) -> io::Result<()> {
+    let written = fill_and_rename(rt, file, temporary, path, bytes);
+    if written.is_err() {
+        let _ = fs::remove_file(rt, temporary);
     }
-    libc::fchmod(fd, 0o644);
-    libc::close(fd);
-    if os::rename(temporary, name) != 0 {
-        return removed(temporary, os::errno());
+    written
+}
+
+// Writes a file by way of the first temporary name that is free.
+fn write_through(rt: &impl Files, name: &[u8], bytes: &[u8]) -> io::Result<()> {
+    let path = path_of(name)?;
+    let mut buffer = [0u8; 4096];
+    for n in 0..TRIES {
+        let size = put_temporary(name, n, &mut buffer);
+        let temporary = path_of(front(&buffer, size))?;
+        match create_temporary(rt, temporary) {
+            Ok(file) => return write_temporary(rt, file, temporary, path, bytes),
+            Err(error) if error.kind() == ErrorKind::AlreadyExists => {}
+            Err(error) => return Err(error),
+        }
     }
-    Written::Done
+    Err(io::Error::from(ErrorKind::AlreadyExists))
 }
 
 // Writes a file: whole, or not at all.
-pub fn write_named(name: &[u8], bytes: &[u8]) -> Written {
+fn write_path(rt: &impl Files, name: &[u8], bytes: &[u8]) -> io::Result<()> {
     if begins(name, b"/dev/") {
-        return write_device(name, bytes);
+        return write_device(rt, path_of(name)?, bytes);
     }
     if 4000 < name.len() {
-        return Written::Failed(libc::ENAMETOOLONG);
+        return Err(io::Error::from(ErrorKind::InvalidFilename));
     }
     if name.len() == 0 {
-        return Written::Failed(libc::EINVAL);
+        return Err(io::Error::from(ErrorKind::InvalidInput));
     }
-    let mut buffer = [0u8; 4096];
-    let size = put_temporary(name, &mut buffer);
-    let temporary = lent(&mut buffer, size);
-    let fd = os::create_temp(temporary);
-    if fd < 0 {
-        return Written::Failed(os::errno());
-    }
-    write_temporary(fd, temporary, name, bytes)
+    write_through(rt, name, bytes)
 }
 
+// The same, as an answer.
+pub fn write_named(rt: &impl Files, name: &[u8], bytes: &[u8]) -> Written {
+    match write_path(rt, name, bytes) {
+        Ok(()) => Written::Done,
+        Err(error) => Written::Failed(error),
+    }
+}
+
+// The number of the system's error for a file that is not open.
+const NOT_OPEN: i32 = 9;
+
 // The system's error in words.
-fn say_reason(error: i32) {
-    if error == libc::ENOENT {
-        say(b"there is no such file or folder");
-        return;
+fn say_reason(rt: &impl Print, error: io::Error) -> io::Result<()> {
+    match error.kind() {
+        ErrorKind::NotFound => say(rt, b"there is no such file or folder"),
+        ErrorKind::PermissionDenied => say(rt, b"this user may not use it"),
+        ErrorKind::IsADirectory => say(rt, b"it is a folder"),
+        ErrorKind::NotADirectory => say(rt, b"a part of the name is no folder"),
+        _ => say_rarer_reason(rt, error),
     }
-    if error == libc::EACCES || error == libc::EPERM {
-        say(b"this user may not use it");
-        return;
-    }
-    if error == libc::EISDIR {
-        say(b"it is a folder");
-        return;
-    }
-    if error == libc::ENOTDIR {
-        say(b"a part of the name is no folder");
-        return;
-    }
-    say_rarer_reason(error);
 }
 
 // The same for a reason that is met more seldom.
-fn say_rarer_reason(error: i32) {
-    if error == libc::EINVAL {
-        say(b"it is no name of a file");
-        return;
+fn say_rarer_reason(rt: &impl Print, error: io::Error) -> io::Result<()> {
+    match error.kind() {
+        ErrorKind::InvalidInput => say(rt, b"it is no name of a file"),
+        ErrorKind::InvalidFilename => say(rt, b"the name is too long"),
+        ErrorKind::StorageFull => say(rt, b"the disk is full"),
+        ErrorKind::ReadOnlyFilesystem => say(rt, b"the disk cannot be written"),
+        _ => say_last_reason(rt, error),
     }
-    if error == libc::ENAMETOOLONG {
-        say(b"the name is too long");
-        return;
+}
+
+// The same for one that has no kind of its own.
+fn say_last_reason(rt: &impl Print, error: io::Error) -> io::Result<()> {
+    match error.raw_os_error() {
+        Some(NOT_OPEN) => say(rt, b"it is not open"),
+        _ => say(rt, b"the system refuses it"),
     }
-    if error == libc::ENOSPC {
-        say(b"the disk is full");
-        return;
-    }
-    if error == libc::EROFS {
-        say(b"the disk cannot be written");
-        return;
-    }
-    if error == libc::EBADF {
-        say(b"it is not open");
-        return;
-    }
-    say(b"the system refuses it");
 }
 
 // The beginning of an error's line: the argument and its value.
-pub fn say_argument(argument: &[u8], value: &[u8]) {
-    say(b"error: ");
-    say(argument);
-    say(b" ");
-    say_quoted(value);
-    say(b": ");
+pub fn say_argument(rt: &impl Print, argument: &[u8], value: &[u8]) -> io::Result<()> {
+    say(rt, b"error: ")?;
+    say(rt, argument)?;
+    say(rt, b" ")?;
+    say_quoted(rt, value)?;
+    say(rt, b": ")
 }
 
 // The end of an error: the line for a script.
-pub fn say_error_result(argument: &[u8]) {
-    say(b"\nresult: error argument=");
-    say(argument);
-    say(b"\n");
+pub fn say_error_result(rt: &impl Print, argument: &[u8]) -> io::Result<()> {
+    say(rt, b"\nresult: error argument=")?;
+    say(rt, argument)?;
+    say(rt, b"\n")
 }
 
 // A file that cannot be read or written: the argument, its value and the reason.
-pub fn say_failed(argument: &[u8], name: &[u8], error: i32) {
-    say_argument(argument, name);
-    say_reason(error);
-    say_error_result(argument);
+pub fn say_failed(
+    rt: &impl Print,
+    argument: &[u8],
+    name: &[u8],
+    error: io::Error,
+) -> io::Result<()> {
+    say_argument(rt, argument, name)?;
+    say_reason(rt, error)?;
+    say_error_result(rt, argument)
 }

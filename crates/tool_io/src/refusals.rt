@@ -2,6 +2,7 @@
 use crate::rows::{bytes_of, row_with, row_with_hash};
 use crate::saying::{say_byte, say_many, say_quoted};
 use causes::Cause;
+use std::io;
 use words::{say, say_number};
 
 // A byte as a number of 64 bits.
@@ -10,35 +11,35 @@ fn wide_byte(x: u8) -> u64 {
 }
 
 // The beginning of a refusal's line: `refused (cause 6, place 0): `.
-pub fn say_cause(cause: Cause) {
-    say(b"refused (cause ");
-    say_number(causes::cause_number(cause) as u64);
-    say(b", place ");
-    say_number(causes::cause_place(cause));
-    say(b"): ");
+pub fn say_cause(rt: &impl Print, cause: Cause) -> io::Result<()> {
+    say(rt, b"refused (cause ")?;
+    say_number(rt, causes::cause_number(cause) as u64)?;
+    say(rt, b", place ")?;
+    say_number(rt, causes::cause_place(cause))?;
+    say(rt, b"): ")
 }
 
 // A refusal for a script: `refused cause=6 place=0`.
-pub fn say_cause_fields(cause: Cause) {
-    say(b"refused cause=");
-    say_number(causes::cause_number(cause) as u64);
-    say(b" place=");
-    say_number(causes::cause_place(cause));
+pub fn say_cause_fields(rt: &impl Print, cause: Cause) -> io::Result<()> {
+    say(rt, b"refused cause=")?;
+    say_number(rt, causes::cause_number(cause) as u64)?;
+    say(rt, b" place=")?;
+    say_number(rt, causes::cause_place(cause))
 }
 
 // The end of a refusal: the line for a script.
-pub fn say_cause_result(cause: Cause) {
-    say(b"\nresult: ");
-    say_cause_fields(cause);
-    say(b"\n");
+pub fn say_cause_result(rt: &impl Print, cause: Cause) -> io::Result<()> {
+    say(rt, b"\nresult: ")?;
+    say_cause_fields(rt, cause)?;
+    say(rt, b"\n")
 }
 
 // `row 256 'bc'`.
-pub fn say_row(file: &[u8], row: usize) {
-    say(b"row ");
-    say_number(row as u64);
-    say(b" ");
-    say_quoted(bytes_of(file, row));
+pub fn say_row(rt: &impl Print, file: &[u8], row: usize) -> io::Result<()> {
+    say(rt, b"row ")?;
+    say_number(rt, row as u64)?;
+    say(rt, b" ")?;
+    say_quoted(rt, bytes_of(file, row))
 }
 
 // A byte of the file, or the one that is wanted where the file has ended.
@@ -54,85 +55,85 @@ fn is_unmarked(file: &[u8], at: usize) -> bool {
     if byte_or(file, at, 0xc7) != 0xc7 {
         return true;
     }
-    byte_or(file, std::num::wrapping_add_usize(at, 1), 0x51) != 0x51
+    byte_or(file, at.wrapping_add(1), 0x51) != 0x51
 }
 
 // A wrong length byte.
-fn say_length(size: u8) {
-    say(b"the length byte is ");
-    say_number(wide_byte(size));
-    say(b" and not 1 to 64");
+fn say_length(rt: &impl Print, size: u8) -> io::Result<()> {
+    say(rt, b"the length byte is ")?;
+    say_number(rt, wide_byte(size))?;
+    say(rt, b" and not 1 to 64")
 }
 
 // Cause 2: which part of the record at an offset is wrong.
-fn say_record(file: &[u8], at: usize) {
+fn say_record(rt: &impl Print, file: &[u8], at: usize) -> io::Result<()> {
     if is_unmarked(file, at) {
-        say(b"the mark is missing");
-        return;
+        return say(rt, b"the mark is missing");
     }
-    let size = byte_or(file, std::num::wrapping_add_usize(at, 2), 1);
+    let size = byte_or(file, at.wrapping_add(2), 1);
     if size < 1 || 64 < size {
-        say_length(size);
-        return;
+        return say_length(rt, size);
     }
-    say(b"the file ends inside a record");
+    say(rt, b"the file ends inside a record")
 }
 
 // Cause 2.
-fn say_bad_record(file: &[u8], at: usize) {
+fn say_bad_record(rt: &impl Print, file: &[u8], at: usize) -> io::Result<()> {
     if file.len() <= at {
-        say(
+        return say(
+            rt,
             b"the file has more than 65536 bytes; take rows out of the sheet and make the file again",
         );
-        return;
     }
-    say(b"at offset ");
-    say_number(at as u64);
-    say(b", after ");
-    say_many(phrase_file::num_rows(file), b"row");
-    say(b", ");
-    say_record(file, at);
-    say(b"; make the file again from its sheet (phrases sheet)");
+    say(rt, b"at offset ")?;
+    say_number(rt, at as u64)?;
+    say(rt, b", after ")?;
+    say_many(rt, phrase_file::num_rows(file), b"row")?;
+    say(rt, b", ")?;
+    say_record(rt, file, at)?;
+    say(rt, b"; make the file again from its sheet (phrases sheet)")
 }
 
 // Cause 3.
-fn say_row_count(n: usize) {
-    say(b"the file has ");
-    say_many(n, b"row");
+fn say_row_count(rt: &impl Print, n: usize) -> io::Result<()> {
+    say(rt, b"the file has ")?;
+    say_many(rt, n, b"row")?;
     if n < 256 {
-        say(b" and needs at least 256, one for each byte; add the missing ones");
-        return;
+        return say(
+            rt,
+            b" and needs at least 256, one for each byte; add the missing ones",
+        );
     }
-    say(b" and may have 4096; take out ");
-    say_number(std::num::wrapping_sub_usize(n, 4096) as u64);
+    say(rt, b" and may have 4096; take out ")?;
+    say_number(rt, n.wrapping_sub(4096) as u64)
 }
 
 // Cause 4.
-fn say_missing(byte: u8) {
-    say(b"byte ");
-    say_number(wide_byte(byte));
-    say(b" has no row of its own; add the row '");
-    say_byte(byte);
-    say(b"' to the sheet");
+fn say_missing(rt: &impl Print, byte: u8) -> io::Result<()> {
+    say(rt, b"byte ")?;
+    say_number(rt, wide_byte(byte))?;
+    say(rt, b" has no row of its own; add the row '")?;
+    say_byte(rt, byte)?;
+    say(rt, b"' to the sheet")
 }
 
 // Cause 5.
-fn say_equal(file: &[u8], row: usize) {
-    say_row(file, row);
-    say(b" stands in row ");
-    say_number(row_with(file, bytes_of(file, row)) as u64);
-    say(b" already; take one of the two out");
+fn say_equal(rt: &impl Print, file: &[u8], row: usize) -> io::Result<()> {
+    say_row(rt, file, row)?;
+    say(rt, b" stands in row ")?;
+    say_number(rt, row_with(file, bytes_of(file, row)) as u64)?;
+    say(rt, b" already; take one of the two out")
 }
 
 // Cause 13. No two rows are equal, so the first row with the hash is the other one.
-fn say_clash(file: &[u8], row: usize, factor: u64) {
+fn say_clash(rt: &impl Print, file: &[u8], row: usize, factor: u64) -> io::Result<()> {
     let hash = fnv::hash_bytes(bytes_of(file, row), factor);
-    say_row(file, row);
-    say(b" has the hash of ");
-    say_row(file, row_with_hash(file, hash, factor));
-    say(b" under factor ");
-    say_number(factor);
-    say(b"; both words may stay, take another factor");
+    say_row(rt, file, row)?;
+    say(rt, b" has the hash of ")?;
+    say_row(rt, file, row_with_hash(file, hash, factor))?;
+    say(rt, b" under factor ")?;
+    say_number(rt, factor)?;
+    say(rt, b"; both words may stay, take another factor")
 }
 
 // The first byte of a row whose own row does not stand above it; the row's length if all do.
@@ -148,46 +149,48 @@ fn letter_below(file: &[u8], row: usize, bytes: &[u8]) -> usize {
 }
 
 // Cause 6.
-fn say_no_parts(file: &[u8], row: usize) {
+fn say_no_parts(rt: &impl Print, file: &[u8], row: usize) -> io::Result<()> {
     let bytes = bytes_of(file, row);
     let i = letter_below(file, row, bytes);
-    say_row(file, row);
-    say(b" has no parts: ");
+    say_row(rt, file, row)?;
+    say(rt, b" has no parts: ")?;
     if i < bytes.len() {
         let letter = [bytes[i]];
-        say(b"its letter ");
-        say_quoted(&letter);
-        say(b" first stands at row ");
-        say_number(row_with(file, &letter) as u64);
-        say(b"; move the word below its letters");
-        return;
+        say(rt, b"its letter ")?;
+        say_quoted(rt, &letter)?;
+        say(rt, b" first stands at row ")?;
+        say_number(rt, row_with(file, &letter) as u64)?;
+        return say(rt, b"; move the word below its letters");
     }
-    say(b"no two rows above it that pass the pair check join to it; put its parts above it");
+    say(
+        rt,
+        b"no two rows above it that pass the pair check join to it; put its parts above it",
+    )
 }
 
 // What is said of a file that build refused with this factor. The lines for people.
-pub fn say_refusal(cause: Cause, file: &[u8], factor: u64) {
-    say_cause(cause);
+pub fn say_refusal(rt: &impl Print, cause: Cause, file: &[u8], factor: u64) -> io::Result<()> {
+    say_cause(rt, cause)?;
     match cause {
-        Cause::FactorZero => say(b"the factor is 0; take another one, as 1"),
-        Cause::BadRecord(at) => say_bad_record(file, at),
-        Cause::RowCount(n) => say_row_count(n),
-        Cause::MissingByte(byte) => say_missing(byte),
-        Cause::EqualRow(row) => say_equal(file, row as usize),
-        Cause::SameHash(row) => say_clash(file, row as usize, factor),
-        Cause::NoParts(row) => say_no_parts(file, row as usize),
-        _ => say_other(cause),
+        Cause::FactorZero => say(rt, b"the factor is 0; take another one, as 1"),
+        Cause::BadRecord(at) => say_bad_record(rt, file, at),
+        Cause::RowCount(n) => say_row_count(rt, n),
+        Cause::MissingByte(byte) => say_missing(rt, byte),
+        Cause::EqualRow(row) => say_equal(rt, file, row as usize),
+        Cause::SameHash(row) => say_clash(rt, file, row as usize, factor),
+        Cause::NoParts(row) => say_no_parts(rt, file, row as usize),
+        _ => say_other(rt, cause),
     }
 }
 
 // The same for a cause that no build has.
-fn say_other(cause: Cause) {
+fn say_other(rt: &impl Print, cause: Cause) -> io::Result<()> {
     match cause {
-        Cause::TooShort => say(b"a buffer is too short"),
-        Cause::OutOfForm => say(b"the tables are out of form"),
-        Cause::TooLong => say(b"the text is over 4096 bytes"),
-        Cause::UnknownCode(_) => say(b"there is no such row"),
-        Cause::BadInterval => say(b"there is no such piece of the text"),
-        _ => say(b"the text is full"),
+        Cause::TooShort => say(rt, b"a buffer is too short"),
+        Cause::OutOfForm => say(rt, b"the tables are out of form"),
+        Cause::TooLong => say(rt, b"the text is over 4096 bytes"),
+        Cause::UnknownCode(_) => say(rt, b"there is no such row"),
+        Cause::BadInterval => say(rt, b"there is no such piece of the text"),
+        _ => say(rt, b"the text is full"),
     }
 }

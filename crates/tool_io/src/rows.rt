@@ -6,7 +6,7 @@ use words::is;
 // The place after the record at a place.
 fn next_place(file: &[u8], at: usize) -> usize {
     let size = phrase_file::row_length(file, at);
-    std::num::wrapping_add_usize(std::num::wrapping_add_usize(at, 3), size)
+    at.wrapping_add(3).wrapping_add(size)
 }
 
 // The bytes of a row; none where there is no such row.

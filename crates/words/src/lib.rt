@@ -1,4 +1,6 @@
 // Words and numbers of a byte text, and what the programs print.
+#![tactic(auto)]
+
 mod numbers;
 mod parts;
 mod saying;

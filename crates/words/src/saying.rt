@@ -1,9 +1,11 @@
-// What the programs print, to standard output.
+// What the programs print, to standard output. A write that fails is handed on to the caller, up to `main`.
 ghost use Rattle.std.specs.Prelude.{◌≡◌};
 
+use std::io;
+
 // Bytes as they are.
-pub fn say(text: &[u8]) {
-    io::write_all(libc::STDOUT_FILENO, text);
+pub fn say(rt: &impl Print, text: &[u8]) -> io::Result<()> {
+    rt.write_all(text)
 }
 
 // A number of 32 bits as one of 64.
@@ -14,12 +16,12 @@ pub fn wide(x: u32) -> u64
 }
 
 // A number in decimal.
-pub fn say_number(n: u64) {
-    io::print_decimal(libc::STDOUT_FILENO, n);
+pub fn say_number(rt: &impl Print, n: u64) -> io::Result<()> {
+    rt.print(n)
 }
 
 // A space and a number.
-pub fn say_field(n: u64) {
-    say(b" ");
-    say_number(n);
+pub fn say_field(rt: &impl Print, n: u64) -> io::Result<()> {
+    say(rt, b" ")?;
+    say_number(rt, n)
 }

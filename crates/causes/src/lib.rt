@@ -4,7 +4,7 @@
 ghost use Rattle.std.specs.Prelude.{◌≡◌};
 ghost use Rattle.causes.specs.Causes.{refusal_of, build_answer_of, answer_of, pair_answer_of, limit_answer_of};
 
-#[derive(Drop)]
+#[derive(Clone, Copy)]
 pub enum Cause {
     FactorZero,
     // The offset of the first bad record, 65,536 if the file is too long.
@@ -30,7 +30,7 @@ pub enum Cause {
 }
 
 // The answer of build.
-#[derive(Drop)]
+#[derive(Clone, Copy)]
 pub enum BuildAnswer {
     // The count of rows.
     Rows(usize),
@@ -38,21 +38,21 @@ pub enum BuildAnswer {
 }
 
 // A number of codes, bytes or rows, or a new length.
-#[derive(Drop)]
+#[derive(Clone, Copy)]
 pub enum Answer {
     Number(usize),
     Refused(Cause),
 }
 
 // The answer of the pair check.
-#[derive(Drop)]
+#[derive(Clone, Copy)]
 pub enum PairAnswer {
     Passes(bool),
     Refused(Cause),
 }
 
 // The answer of a count with a limit.
-#[derive(Drop)]
+#[derive(Clone, Copy)]
 pub enum LimitAnswer {
     Counted(usize),
     Over,

@@ -9,13 +9,13 @@ ghost use Rattle.std.specs.Prelude.{◌≡◌, suc, ◌-◌, ◌<◌, min};
 ghost use Rattle.bitfield.specs.Bits.{word_bit, is_set, all_set, without, lowest, highest, successor, predecessor};
 ghost use Rattle.bitfield.specs.Bits.{Cleared, place_of};
 
-#[derive(Drop)]
+#[derive(Clone, Copy)]
 pub struct BitField {
     pub words: [u64; 65],
 }
 
 // The answer of a search for a set bit.
-#[derive(Drop)]
+#[derive(Clone, Copy)]
 pub enum Bit {
     At(usize),
     Nothing,

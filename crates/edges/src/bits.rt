@@ -1,6 +1,7 @@
 // Works through the edges of the bit set and prints for each group whether it came out right.
 use bitfield::{Bit, BitField};
-use libc::STDOUT_FILENO;
+use std::io;
+use words::say;
 
 fn is_at(found: Bit, place: usize) -> bool {
     match found {
@@ -71,19 +72,19 @@ fn predecessor() -> bool {
         && is_nothing(none.predecessor(0))
 }
 
-fn report(name: &[u8], right: bool) {
-    io::write_all(STDOUT_FILENO, name);
+fn report(rt: &impl Print, name: &[u8], right: bool) -> io::Result<()> {
+    say(rt, name)?;
     if right {
-        io::write_all(STDOUT_FILENO, b": ok\n");
+        say(rt, b": ok\n")
     } else {
-        io::write_all(STDOUT_FILENO, b": wrong\n");
+        say(rt, b": wrong\n")
     }
 }
 
-pub(crate) fn work_through() {
-    report(b"all set", all_set());
-    report(b"beyond", beyond());
-    report(b"clear", clear());
-    report(b"successor", successor());
-    report(b"predecessor", predecessor());
+pub(crate) fn work_through(rt: &impl Print) -> io::Result<()> {
+    report(rt, b"all set", all_set())?;
+    report(rt, b"beyond", beyond())?;
+    report(rt, b"clear", clear())?;
+    report(rt, b"successor", successor())?;
+    report(rt, b"predecessor", predecessor())
 }

@@ -2,6 +2,9 @@
 // comment that begins with `#`, or a vector: how many times, the octets in hex (`-` for none), the value in hex. Each
 // line that is wrong or malformed is told; the last line printed counts them all.
 use fnv::{OFFSET, fnv1a};
+use std::io;
+use std::io::Read;
+use tool_io::read_full;
 use words::{Parsed, after, front, is, number, part, put, say, say_number, until};
 
 // The octets that a vector repeats.
@@ -89,7 +92,7 @@ fn put_octets(word: &[u8], octets: &mut Octets) -> usize {
 fn hash_again(times: u64, octets: &Octets, size: usize) -> u64 {
     let repeated = front(octets, size);
     let mut hash = OFFSET;
-    for k in 0..times {
+    for _ in 0..times {
         hash = fnv1a(hash, repeated);
     }
     hash
@@ -149,59 +152,61 @@ fn kind(line: &[u8]) -> usize {
 }
 
 // Tells a line that is not as it must be.
-fn tell(line: u64, kind: usize) {
+fn tell(rt: &impl Print, line: u64, kind: usize) -> io::Result<()> {
     if kind < WRONG {
-        return;
+        return Ok(());
     }
-    say(b"line ");
-    say_number(line);
+    say(rt, b"line ")?;
+    say_number(rt, line)?;
     if kind == WRONG {
-        say(b": WRONG\n");
+        say(rt, b": WRONG\n")
     } else {
-        say(b": malformed\n");
+        say(rt, b": malformed\n")
     }
 }
 
 // Counts a line of this kind.
-fn count(tally: &mut Tally, kind: usize) {
+fn count(rt: &impl Print, tally: &mut Tally, kind: usize) -> io::Result<()> {
     if kind < LINES {
-        tally[kind] = std::num::wrapping_add_u64(tally[kind], 1);
+        tally[kind] = tally[kind].wrapping_add(1);
     }
-    tally[LINES] = std::num::wrapping_add_u64(tally[LINES], 1);
-    tell(tally[LINES], kind);
+    tally[LINES] = tally[LINES].wrapping_add(1);
+    tell(rt, tally[LINES], kind)
 }
 
 // Works through the lines of the list.
-fn count_all(list: &[u8], tally: &mut Tally) {
+fn count_all(rt: &impl Print, list: &[u8], tally: &mut Tally) -> io::Result<()> {
     let mut at = 0;
     while at < list.len() {
-        count(tally, kind(until(list, at, b'\n')));
+        count(rt, tally, kind(until(list, at, b'\n')))?;
         at = after(list, at, b'\n');
     }
+    Ok(())
 }
 
 // Prints how many lines there were of each kind.
-fn say_tally(tally: &Tally) {
-    say_number(tally[RIGHT]);
-    say(b" vectors as published, ");
-    say_number(tally[WRONG]);
-    say(b" WRONG, ");
-    say_number(tally[MALFORMED]);
-    say(b" malformed\n");
+fn say_tally(rt: &impl Print, tally: &Tally) -> io::Result<()> {
+    say_number(rt, tally[RIGHT])?;
+    say(rt, b" vectors as published, ")?;
+    say_number(rt, tally[WRONG])?;
+    say(rt, b" WRONG, ")?;
+    say_number(rt, tally[MALFORMED])?;
+    say(rt, b" malformed\n")
 }
 
 // Tells a list that fills the room for it: there may be more of it.
-fn tell_full(size: usize) {
+fn tell_full(rt: &impl Print, size: usize) -> io::Result<()> {
     if size == 16384 {
-        say(b"more than there is room for\n");
+        say(rt, b"more than there is room for\n")?;
     }
+    Ok(())
 }
 
-pub(crate) fn work_through() {
+pub(crate) fn work_through(rt: &impl Print, input: &mut impl Read) -> io::Result<()> {
     let mut list = [0u8; 16384];
     let mut tally = [0u64; 5];
-    let size = io::read_full(libc::STDIN_FILENO, &mut list);
-    tell_full(size);
-    count_all(front(&list, size), &mut tally);
-    say_tally(&tally);
+    let size = read_full(input, &mut list)?;
+    tell_full(rt, size)?;
+    count_all(rt, front(&list, size), &mut tally)?;
+    say_tally(rt, &tally)
 }

@@ -4,23 +4,21 @@ use crate::fields::{entry, field, number, rest, size};
 use crate::names::{BUILD, ENTRIES, LENGTH, PAIR, ROWS, SET, buffer};
 use crate::sizes::{AREA, FILE, LEFTS, PLACES, PREFIXES, RIGHTS, SearchArea, Sizes, Table, lent};
 use causes::{Answer, BuildAnswer, PairAnswer};
+use std::io;
 use words::{front, say, say_field, wide};
 
 // Says what a build did to a buffer of which it fills the first n numbers.
-fn say_state(buffer: &[u32], n: usize) {
+fn say_state(rt: &impl Print, buffer: &[u32], n: usize) -> io::Result<()> {
     if kept(buffer, 0) {
-        say(b" unchanged");
-        return;
+        return say(rt, b" unchanged");
     }
     if !kept(buffer, n) {
-        say(b" written beyond");
-        return;
+        return say(rt, b" written beyond");
     }
     if cleared(buffer, n) {
-        say(b" none");
-        return;
+        return say(rt, b" none");
     }
-    say(b" filled");
+    say(rt, b" filled")
 }
 
 // The count of rows of a file, 0 if its form is refused.
@@ -55,6 +53,7 @@ fn build_lent(
 
 // `build FACTOR`, over buffers that hold canaries.
 fn build(
+    rt: &impl Print,
     file: &[u8],
     factor: u64,
     sizes: Sizes,
@@ -63,22 +62,22 @@ fn build(
     rights: &mut Table,
     prefixes: &mut Table,
     area: &mut SearchArea,
-) {
+) -> io::Result<()> {
     fill(places);
     fill(lefts);
     fill(rights);
     fill(prefixes);
     fill(area);
     let answer = build_lent(file, factor, sizes, places, lefts, rights, prefixes, area);
-    say_field(causes::build_answer_number(answer) as u64);
-    say_field(causes::build_answer_place(answer));
+    say_field(rt, causes::build_answer_number(answer) as u64)?;
+    say_field(rt, causes::build_answer_place(answer))?;
     let n = count(file);
-    say_state(places, n);
-    say_state(lefts, n);
-    say_state(rights, n);
-    say_state(prefixes, n);
-    say_state(area, 16384);
-    say(b"\n");
+    say_state(rt, places, n)?;
+    say_state(rt, lefts, n)?;
+    say_state(rt, rights, n)?;
+    say_state(rt, prefixes, n)?;
+    say_state(rt, area, 16384)?;
+    say(rt, b"\n")
 }
 
 // An entry of a table, 0 beyond it.
@@ -97,13 +96,20 @@ fn put_entry(table: &mut [u32], i: usize, value: u32) {
 }
 
 // `entries ROW`: its place, left part, right part and prefix.
-fn say_entries(row: usize, places: &[u32], lefts: &[u32], rights: &[u32], prefixes: &[u32]) {
-    say_field(row as u64);
-    say_field(at(places, row));
-    say_field(at(lefts, row));
-    say_field(at(rights, row));
-    say_field(at(prefixes, row));
-    say(b"\n");
+fn say_entries(
+    rt: &impl Print,
+    row: usize,
+    places: &[u32],
+    lefts: &[u32],
+    rights: &[u32],
+    prefixes: &[u32],
+) -> io::Result<()> {
+    say_field(rt, row as u64)?;
+    say_field(rt, at(places, row))?;
+    say_field(rt, at(lefts, row))?;
+    say_field(rt, at(rights, row))?;
+    say_field(rt, at(prefixes, row))?;
+    say(rt, b"\n")
 }
 
 // `set TABLE ENTRY VALUE`
@@ -132,28 +138,29 @@ fn set_entry(
 }
 
 // The number and the place of an answer.
-pub(crate) fn say_answer(answer: Answer) {
-    say_field(causes::answer_number(answer) as u64);
-    say_field(causes::answer_place(answer));
+pub(crate) fn say_answer(rt: &impl Print, answer: Answer) -> io::Result<()> {
+    say_field(rt, causes::answer_number(answer) as u64)?;
+    say_field(rt, causes::answer_place(answer))
 }
 
 // The same of the pair check: 1 if the pair passes, else 0.
-fn say_pair(answer: PairAnswer) {
+fn say_pair(rt: &impl Print, answer: PairAnswer) -> io::Result<()> {
     match answer {
         PairAnswer::Passes(passes) => {
-            say_field(0);
-            say_field(if passes { 1 } else { 0 });
+            say_field(rt, 0)?;
+            say_field(rt, if passes { 1 } else { 0 })?;
         }
         PairAnswer::Refused(cause) => {
-            say_field(causes::cause_number(cause) as u64);
-            say_field(causes::cause_place(cause));
+            say_field(rt, causes::cause_number(cause) as u64)?;
+            say_field(rt, causes::cause_place(cause))?;
         }
     }
-    say(b"\n");
+    say(rt, b"\n")
 }
 
 // The calls over tables that need no text: `rows`, `length ROW`, `pair ROW ROW`.
 pub(crate) fn ask(
+    rt: &impl Print,
     command: usize,
     line: &[u8],
     file: &[u8],
@@ -162,17 +169,23 @@ pub(crate) fn ask(
     rights: &[u32],
     prefixes: &[u32],
     area: &[u32],
-) {
+) -> io::Result<()> {
     if command == ROWS {
-        say_answer(tables::num_tokens(file, places, lefts, rights, prefixes, area));
-        say(b"\n");
+        say_answer(
+            rt,
+            tables::num_tokens(file, places, lefts, rights, prefixes, area),
+        )?;
+        say(rt, b"\n")?;
     }
     if command == LENGTH {
-        say_answer(tables::token_len(file, places, lefts, rights, prefixes, area, entry(line)));
-        say(b"\n");
+        say_answer(
+            rt,
+            tables::token_len(file, places, lefts, rights, prefixes, area, entry(line)),
+        )?;
+        say(rt, b"\n")?;
     }
     if command == PAIR {
-        say_pair(byte_pair_encoding::is_valid_token_pair(
+        let answer = byte_pair_encoding::is_valid_token_pair(
             file,
             places,
             lefts,
@@ -181,12 +194,15 @@ pub(crate) fn ask(
             area,
             entry(line),
             entry(rest(line)),
-        ));
+        );
+        say_pair(rt, answer)?;
     }
+    Ok(())
 }
 
 // Does a command that writes or shows the tables, if it is one.
 pub(crate) fn obey(
+    rt: &impl Print,
     command: usize,
     line: &[u8],
     file: &[u8],
@@ -196,9 +212,10 @@ pub(crate) fn obey(
     rights: &mut Table,
     prefixes: &mut Table,
     area: &mut SearchArea,
-) {
+) -> io::Result<()> {
     if command == BUILD {
         build(
+            rt,
             front(file, sizes[FILE]),
             number(line),
             sizes,
@@ -207,12 +224,13 @@ pub(crate) fn obey(
             rights,
             prefixes,
             area,
-        );
+        )?;
     }
     if command == ENTRIES {
-        say_entries(size(line), places, lefts, rights, prefixes);
+        say_entries(rt, size(line), places, lefts, rights, prefixes)?;
     }
     if command == SET {
         set_entry(line, places, lefts, rights, prefixes);
     }
+    Ok(())
 }

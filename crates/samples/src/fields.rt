@@ -1,4 +1,6 @@
 // Words, numbers and escaped bytes of the lines of a script, and the reading of such lines.
+use std::io;
+use std::io::Read;
 use words::{after, is, part, put, until};
 
 // The first word of a line.
@@ -22,7 +24,7 @@ pub(crate) fn place_in(list: &[u8], word: &[u8]) -> usize {
         if is(until(list, at, b' '), word) {
             return count;
         }
-        count = std::num::wrapping_add_usize(count, 1);
+        count = count.wrapping_add(1);
         at = after(list, at, b' ');
     }
     count
@@ -134,28 +136,28 @@ fn wide_byte(byte: u8) -> u32 {
     byte as u32
 }
 
-// The next byte of standard input; 256 at its end.
-fn read_byte() -> u32 {
+// The next byte of an input; 256 at its end.
+fn read_byte(input: &mut impl Read) -> io::Result<u32> {
     let mut byte = [0u8; 1];
-    if io::read_full(libc::STDIN_FILENO, &mut byte) == 0 {
-        return 256;
+    if input.read(&mut byte)? == 0 {
+        return Ok(256);
     }
-    wide_byte(byte[0])
+    Ok(wide_byte(byte[0]))
 }
 
-// Reads a line of standard input, as far as there is room, and gives its length.
-pub(crate) fn read_line(line: &mut [u8]) -> usize {
+// Reads a line of an input, as far as there is room, and gives its length.
+pub(crate) fn read_line(input: &mut impl Read, line: &mut [u8]) -> io::Result<usize> {
     let mut size = 0;
     while size < line.len() {
-        let byte = read_byte();
+        let byte = read_byte(input)?;
         if byte == 256 && size == 0 {
-            return END;
+            return Ok(END);
         }
         if byte == 256 || byte == 10 {
-            return size;
+            return Ok(size);
         }
         line[size] = (byte % 256) as u8;
         size += 1;
     }
-    size
+    Ok(size)
 }

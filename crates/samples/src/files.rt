@@ -33,18 +33,14 @@ fn put_numbers(file: &mut [u8], at: usize, size: u8, count: usize) -> usize {
 fn put_row(file: &mut [u8], at: usize, line: &[u8]) -> usize {
     let from = put_mark(file, at, 0);
     let end = unescape(line, file, from);
-    put_mark(
-        file,
-        at,
-        (std::num::wrapping_sub_usize(end, from) % 256) as u8,
-    );
+    put_mark(file, at, (end.wrapping_sub(from) % 256) as u8);
     end
 }
 
 // The same row so many times.
 fn put_rows(file: &mut [u8], at: usize, line: &[u8], count: usize) -> usize {
     let mut end = at;
-    for k in 0..count {
+    for _ in 0..count {
         end = put_row(file, end, line);
     }
     end

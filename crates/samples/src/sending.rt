@@ -5,6 +5,7 @@ use crate::fields::{entry, number, rest};
 use crate::names;
 use crate::sizes::{BYTES, OUTPUT, Sizes, WORK, lent, lent_bytes};
 use causes::Answer;
+use std::io;
 use words::{front, front_numbers, say, say_field, wide};
 
 // Whether the command is an encoder's name.
@@ -65,25 +66,27 @@ fn scratch(answer: Answer, text: &[u8]) -> usize {
 }
 
 // Each number, with a space before it.
-fn say_codes(codes: &[u32]) {
+fn say_codes(rt: &impl Print, codes: &[u32]) -> io::Result<()> {
     let mut i = 0;
     while i < codes.len() {
-        say_field(wide(codes[i]));
+        say_field(rt, wide(codes[i]))?;
         i += 1;
     }
+    Ok(())
 }
 
 // Says whether the buffers beyond what the call may write are as before.
-fn say_kept(as_before: bool) {
+fn say_kept(rt: &impl Print, as_before: bool) -> io::Result<()> {
     if as_before {
-        say(b"; the rest as before\n");
+        say(rt, b"; the rest as before\n")
     } else {
-        say(b"; WRITTEN BEYOND\n");
+        say(rt, b"; WRITTEN BEYOND\n")
     }
 }
 
 // An encoder over buffers that hold canaries.
 fn send(
+    rt: &impl Print,
     command: usize,
     file: &[u8],
     sizes: Sizes,
@@ -93,7 +96,7 @@ fn send(
     prefixes: &[u32],
     area: &[u32],
     text: &[u8],
-) {
+) -> io::Result<()> {
     let mut out = [0u32; 4200];
     let mut work = [0u32; 4200];
     fill(&mut out);
@@ -110,14 +113,18 @@ fn send(
         lent(&mut out, sizes[OUTPUT]),
         lent(&mut work, sizes[WORK]),
     );
-    say_answer(answer);
-    say(b":");
-    say_codes(front_numbers(&out, written(answer)));
-    say_kept(kept(&out, written(answer)) && kept(&work, scratch(answer, text)));
+    say_answer(rt, answer)?;
+    say(rt, b":")?;
+    say_codes(rt, front_numbers(&out, written(answer)))?;
+    say_kept(
+        rt,
+        kept(&out, written(answer)) && kept(&work, scratch(answer, text)),
+    )
 }
 
 // `count`
 fn count(
+    rt: &impl Print,
     file: &[u8],
     sizes: Sizes,
     places: &[u32],
@@ -126,7 +133,7 @@ fn count(
     prefixes: &[u32],
     area: &[u32],
     text: &[u8],
-) {
+) -> io::Result<()> {
     let mut work = [0u32; 4200];
     fill(&mut work);
     let answer = byte_pair_encoding::count(
@@ -139,12 +146,13 @@ fn count(
         text,
         lent(&mut work, sizes[WORK]),
     );
-    say_answer(answer);
-    say_kept(kept(&work, scratch(answer, text)));
+    say_answer(rt, answer)?;
+    say_kept(rt, kept(&work, scratch(answer, text)))
 }
 
 // `limit LIMIT`: the count, or 4294967295 for "over".
 fn count_till_limit(
+    rt: &impl Print,
     limit: u64,
     file: &[u8],
     sizes: Sizes,
@@ -154,7 +162,7 @@ fn count_till_limit(
     prefixes: &[u32],
     area: &[u32],
     text: &[u8],
-) {
+) -> io::Result<()> {
     let mut work = [0u32; 4200];
     fill(&mut work);
     let answer = byte_pair_encoding::count_till_limit(
@@ -169,12 +177,12 @@ fn count_till_limit(
         lent(&mut work, sizes[WORK]),
     );
     let number = causes::limit_answer_number(answer) as u64;
-    say_field(number);
-    say_field(causes::limit_answer_place(answer));
+    say_field(rt, number)?;
+    say_field(rt, causes::limit_answer_place(answer))?;
     if number == 0 {
-        say_kept(kept(&work, text.len()));
+        say_kept(rt, kept(&work, text.len()))
     } else {
-        say_kept(kept(&work, 0));
+        say_kept(rt, kept(&work, 0))
     }
 }
 
@@ -208,6 +216,7 @@ fn spell(
 
 // Decoding over a buffer that holds the same byte everywhere.
 fn decode(
+    rt: &impl Print,
     command: usize,
     line: &[u8],
     file: &[u8],
@@ -218,7 +227,7 @@ fn decode(
     prefixes: &[u32],
     area: &[u32],
     codes: &[u32],
-) {
+) -> io::Result<()> {
     let mut bytes = [CANARY; 66000];
     let answer = spell(
         command,
@@ -233,14 +242,15 @@ fn decode(
         lent_bytes(&mut bytes, sizes[BYTES]),
     );
     let end = written(answer);
-    say_answer(answer);
-    say(b": ");
-    say(front(&bytes, end));
-    say_kept(kept_bytes(&bytes, end));
+    say_answer(rt, answer)?;
+    say(rt, b": ")?;
+    say(rt, front(&bytes, end))?;
+    say_kept(rt, kept_bytes(&bytes, end))
 }
 
 // Does a command that reads the tables, if it is one.
 pub(crate) fn obey(
+    rt: &impl Print,
     command: usize,
     line: &[u8],
     file: &[u8],
@@ -252,19 +262,18 @@ pub(crate) fn obey(
     area: &[u32],
     text: &[u8],
     codes: &[u32],
-) {
+) -> io::Result<()> {
     if is_encoder(command) {
-        send(
-            command, file, sizes, places, lefts, rights, prefixes, area, text,
+        return send(
+            rt, command, file, sizes, places, lefts, rights, prefixes, area, text,
         );
-        return;
     }
     if command == names::COUNT {
-        count(file, sizes, places, lefts, rights, prefixes, area, text);
-        return;
+        return count(rt, file, sizes, places, lefts, rights, prefixes, area, text);
     }
     if command == names::LIMIT {
-        count_till_limit(
+        return count_till_limit(
+            rt,
             number(line),
             file,
             sizes,
@@ -275,13 +284,13 @@ pub(crate) fn obey(
             area,
             text,
         );
-        return;
     }
     if command == names::DECODE || command == names::BYTES {
-        decode(
-            command, line, file, sizes, places, lefts, rights, prefixes, area, codes,
+        return decode(
+            rt, command, line, file, sizes, places, lefts, rights, prefixes, area, codes,
         );
-        return;
     }
-    ask(command, line, file, places, lefts, rights, prefixes, area);
+    ask(
+        rt, command, line, file, places, lefts, rights, prefixes, area,
+    )
 }

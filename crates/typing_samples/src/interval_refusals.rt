@@ -3,6 +3,7 @@
 // printed comes from tools/refusals.py.
 use crate::said::{say_call, say_kept};
 use crate::texts::lent;
+use std::io;
 use words::{front, front_numbers, say, say_field};
 
 // Last codes, a table of the tree or work numbers, for a text of four bytes.
@@ -55,16 +56,23 @@ fn room(buffer: usize, short: usize, few: usize) -> usize {
 }
 
 // Prints the numbers of a case.
-fn say_case(bytes: usize, short: usize, entries: usize, end: usize) {
-    say(b"bytes");
-    say_field(bytes as u64);
-    say_field(short as u64);
-    say_field(entries as u64);
-    say_field(end as u64);
+fn say_case(
+    rt: &impl Print,
+    bytes: usize,
+    short: usize,
+    entries: usize,
+    end: usize,
+) -> io::Result<()> {
+    say(rt, b"bytes")?;
+    say_field(rt, bytes as u64)?;
+    say_field(rt, short as u64)?;
+    say_field(rt, entries as u64)?;
+    say_field(rt, end as u64)
 }
 
 // Prepares a text, and counts its piece from 3 to a place. The short buffer has one number less than four bytes need.
 fn try_case(
+    rt: &impl Print,
     file: &[u8],
     places: &[u32],
     lefts: &[u32],
@@ -74,7 +82,7 @@ fn try_case(
     text: &[u8],
     short: usize,
     end: usize,
-) {
+) -> io::Result<()> {
     let mut codes = [PATTERN; 8];
     let mut numbers = [PATTERN; 8];
     let mut ends = [PATTERN; 8];
@@ -110,15 +118,19 @@ fn try_case(
         end,
         lent(&mut work, room(WORK, short, 3)),
     );
-    say_case(text.len(), short, area.len(), end);
-    say_call(b": prepare", prepared);
-    say_call(b", count", counted);
-    say_kept(kept(&codes) && kept(&numbers) && kept(&ends) && kept(&depths) && kept(&work));
-    say(b"\n");
+    say_case(rt, text.len(), short, area.len(), end)?;
+    say_call(rt, b": prepare", prepared)?;
+    say_call(rt, b", count", counted)?;
+    say_kept(
+        rt,
+        kept(&codes) && kept(&numbers) && kept(&ends) && kept(&depths) && kept(&work),
+    )?;
+    say(rt, b"\n")
 }
 
 // All cases, over the first bytes of a text.
 pub(crate) fn say_refusals(
+    rt: &impl Print,
     file: &[u8],
     places: &[u32],
     lefts: &[u32],
@@ -126,10 +138,11 @@ pub(crate) fn say_refusals(
     prefixes: &[u32],
     area: &[u32],
     text: &[u8; 4097],
-) {
-    say(b"intervals: bytes, short buffer, search area, end\n");
+) -> io::Result<()> {
+    say(rt, b"intervals: bytes, short buffer, search area, end\n")?;
     for k in 0..11 {
         try_case(
+            rt,
             file,
             places,
             lefts,
@@ -139,6 +152,7 @@ pub(crate) fn say_refusals(
             front(text, BYTES[k]),
             SHORT[k],
             END[k],
-        );
+        )?;
     }
+    Ok(())
 }

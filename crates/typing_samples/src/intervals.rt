@@ -1,6 +1,7 @@
 // Counts of pieces of a text against `count` of each piece.
 use crate::said::{Tally, compare, held, say_answer};
 use causes::Answer;
+use std::io;
 use words::part;
 
 // Last codes, a table of the tree or work numbers for a text of at most 200 bytes.
@@ -67,29 +68,34 @@ fn count_sample(
 
 // Prints the counts of four pieces of "abcd", two of which are refused.
 pub(crate) fn say_samples(
+    rt: &impl Print,
     file: &[u8],
     places: &[u32],
     lefts: &[u32],
     rights: &[u32],
     prefixes: &[u32],
     area: &[u32],
-) {
+) -> io::Result<()> {
     say_answer(
+        rt,
         b"P6 interval 1 to 4:",
         count_sample(file, places, lefts, rights, prefixes, area, 1, 4),
-    );
+    )?;
     say_answer(
+        rt,
         b"P7 interval 2 to 2:",
         count_sample(file, places, lefts, rights, prefixes, area, 2, 2),
-    );
+    )?;
     say_answer(
+        rt,
         b"interval 3 to 2:",
         count_sample(file, places, lefts, rights, prefixes, area, 3, 2),
-    );
+    )?;
     say_answer(
+        rt,
         b"interval 0 to 5:",
         count_sample(file, places, lefts, rights, prefixes, area, 0, 5),
-    );
+    )
 }
 
 // Compares the count of a piece, where there is such a piece.

@@ -1,56 +1,57 @@
 // What is printed, and how many answers differ.
 use causes::Answer;
+use std::io;
 use words::{say, say_field, wide};
 
 // How many answers were compared, and how many of them differed.
 pub type Tally = [u64; 2];
 
 // The first four numbers.
-pub(crate) fn say_four(name: &[u8], counts: &[u32; 4096]) {
-    say(name);
-    say_field(wide(counts[0]));
-    say_field(wide(counts[1]));
-    say_field(wide(counts[2]));
-    say_field(wide(counts[3]));
-    say(b"\n");
+pub(crate) fn say_four(rt: &impl Print, name: &[u8], counts: &[u32; 4096]) -> io::Result<()> {
+    say(rt, name)?;
+    say_field(rt, wide(counts[0]))?;
+    say_field(rt, wide(counts[1]))?;
+    say_field(rt, wide(counts[2]))?;
+    say_field(rt, wide(counts[3]))?;
+    say(rt, b"\n")
 }
 
 // The number that an answer holds, or the refusal and its place.
-pub(crate) fn say_answer(name: &[u8], answer: Answer) {
-    say(name);
+pub(crate) fn say_answer(rt: &impl Print, name: &[u8], answer: Answer) -> io::Result<()> {
+    say(rt, name)?;
     let refusal = causes::answer_number(answer);
     if refusal != 0 {
-        say(b" refused");
-        say_field(wide(refusal));
-        say(b", place");
+        say(rt, b" refused")?;
+        say_field(rt, wide(refusal))?;
+        say(rt, b", place")?;
     }
-    say_field(causes::answer_place(answer));
-    say(b"\n");
+    say_field(rt, causes::answer_place(answer))?;
+    say(rt, b"\n")
 }
 
 // The number and the place of the answer of a call.
-pub(crate) fn say_call(name: &[u8], answer: Answer) {
-    say(name);
-    say_field(wide(causes::answer_number(answer)));
-    say_field(causes::answer_place(answer));
+pub(crate) fn say_call(rt: &impl Print, name: &[u8], answer: Answer) -> io::Result<()> {
+    say(rt, name)?;
+    say_field(rt, wide(causes::answer_number(answer)))?;
+    say_field(rt, causes::answer_place(answer))
 }
 
 // Whether what was lent is as before.
-pub(crate) fn say_kept(kept: bool) {
+pub(crate) fn say_kept(rt: &impl Print, kept: bool) -> io::Result<()> {
     if kept {
-        say(b", as before");
+        say(rt, b", as before")
     } else {
-        say(b", CHANGED");
+        say(rt, b", CHANGED")
     }
 }
 
-pub(crate) fn say_tally(name: &[u8], tally: Tally) {
-    say(name);
-    say(b" compared");
-    say_field(tally[0]);
-    say(b", differing");
-    say_field(tally[1]);
-    say(b"\n");
+pub(crate) fn say_tally(rt: &impl Print, name: &[u8], tally: Tally) -> io::Result<()> {
+    say(rt, name)?;
+    say(rt, b" compared")?;
+    say_field(rt, tally[0])?;
+    say(rt, b", differing")?;
+    say_field(rt, tally[1])?;
+    say(rt, b"\n")
 }
 
 // The number that an answer holds, or the largest number in place of a refusal.
@@ -63,8 +64,8 @@ pub(crate) fn held(answer: Answer) -> u64 {
 
 // Counts a number that was compared with an answer. A refusal differs from every number.
 pub(crate) fn compare(tally: &mut Tally, found: u64, wanted: Answer) {
-    tally[0] = std::num::wrapping_add_u64(tally[0], 1);
+    tally[0] = tally[0].wrapping_add(1);
     if causes::answer_number(wanted) != 0 || causes::answer_place(wanted) != found {
-        tally[1] = std::num::wrapping_add_u64(tally[1], 1);
+        tally[1] = tally[1].wrapping_add(1);
     }
 }

@@ -74,7 +74,7 @@ fn put_both(text: &mut Text, mirror: &mut Text, at: usize, byte: u8) {
 pub(crate) fn put_piece(text: &mut Text, mirror: &mut Text, at: usize, piece: &[u8]) {
     let mut i = 0;
     while i < piece.len() {
-        put_both(text, mirror, std::num::wrapping_add_usize(at, i), piece[i]);
+        put_both(text, mirror, at.wrapping_add(i), piece[i]);
         i += 1;
     }
 }

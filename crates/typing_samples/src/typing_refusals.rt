@@ -4,6 +4,7 @@
 // nothing but added bytes can change anything. What must be printed comes from tools/refusals.py.
 use crate::said::{say_call, say_kept};
 use causes::Answer;
+use std::io;
 use typing::{Head, State};
 use typing_columns::Side;
 use words::{front, front_numbers, say, say_field};
@@ -74,29 +75,37 @@ pub fn holds(states: &[State], wrong: usize) -> bool {
 }
 
 // Prints the head's length, and whether every record is as before.
-fn say_left(len: usize, kept: bool) {
-    say(b", length");
-    say_field(len as u64);
-    say_kept(kept);
+fn say_left(rt: &impl Print, len: usize, kept: bool) -> io::Result<()> {
+    say(rt, b", length")?;
+    say_field(rt, len as u64)?;
+    say_kept(rt, kept)
 }
 
 // Prints the answers of the calls that are done first, and what they left.
-fn say_first(extended: Answer, cut: Answer, counted: Answer, len: usize, kept: bool) {
-    say_call(b": extend", extended);
-    say_call(b", truncate", cut);
-    say_call(b", token_count", counted);
-    say_left(len, kept);
+fn say_first(
+    rt: &impl Print,
+    extended: Answer,
+    cut: Answer,
+    counted: Answer,
+    len: usize,
+    kept: bool,
+) -> io::Result<()> {
+    say_call(rt, b": extend", extended)?;
+    say_call(rt, b", truncate", cut)?;
+    say_call(rt, b", token_count", counted)?;
+    say_left(rt, len, kept)
 }
 
 // Prints the answer of push, and what it left.
-fn say_last(pushed: Answer, len: usize, kept: bool) {
-    say_call(b"; push", pushed);
-    say_left(len, kept);
-    say(b"\n");
+fn say_last(rt: &impl Print, pushed: Answer, len: usize, kept: bool) -> io::Result<()> {
+    say_call(rt, b"; push", pushed)?;
+    say_left(rt, len, kept)?;
+    say(rt, b"\n")
 }
 
 // Does the calls of a case over a slice of so many records.
 fn do_calls(
+    rt: &impl Print,
     side: Side,
     file: &[u8],
     places: &[u32],
@@ -108,9 +117,9 @@ fn do_calls(
     len: usize,
     wrong: usize,
     typed: &[u8],
-) {
+) -> io::Result<()> {
     if 4100 < records {
-        return;
+        return Ok(());
     }
     let mut room: [State; 4100] = [pattern(0, 0); 4100];
     let states = &mut room[..records];
@@ -124,30 +133,39 @@ fn do_calls(
         side, file, places, lefts, rights, prefixes, area, &head, states,
     );
     say_first(
+        rt,
         extended,
         cut,
         counted,
         length_of(head),
         holds(states, wrong),
-    );
+    )?;
     let pushed = typing::push(
         side, file, places, lefts, rights, prefixes, area, &mut head, states, 1,
     );
-    say_last(pushed, length_of(head), holds(states, wrong));
+    say_last(rt, pushed, length_of(head), holds(states, wrong))
 }
 
 // Prints the numbers of a case.
-fn say_case(records: usize, len: usize, wrong: usize, entries: usize, typed: usize) {
-    say(b"records");
-    say_field(records as u64);
-    say_field(len as u64);
-    say_field(wrong as u64);
-    say_field(entries as u64);
-    say_field(typed as u64);
+fn say_case(
+    rt: &impl Print,
+    records: usize,
+    len: usize,
+    wrong: usize,
+    entries: usize,
+    typed: usize,
+) -> io::Result<()> {
+    say(rt, b"records")?;
+    say_field(rt, records as u64)?;
+    say_field(rt, len as u64)?;
+    say_field(rt, wrong as u64)?;
+    say_field(rt, entries as u64)?;
+    say_field(rt, typed as u64)
 }
 
 // All cases of one side.
 pub(crate) fn say_side(
+    rt: &impl Print,
     name: &[u8],
     side: Side,
     file: &[u8],
@@ -157,16 +175,17 @@ pub(crate) fn say_side(
     prefixes: &[u32],
     area: &[u32],
     ones: &[u8; 4097],
-) {
-    say(name);
+) -> io::Result<()> {
+    say(rt, name)?;
     for k in 0..11 {
         let records = RECORDS[k];
         let len = LENGTHS[k];
         let wrong = WRONG[k];
         let entries = AREAS[k];
         let typed = TYPED[k];
-        say_case(records, len, wrong, entries, typed);
+        say_case(rt, records, len, wrong, entries, typed)?;
         do_calls(
+            rt,
             side,
             file,
             places,
@@ -178,6 +197,7 @@ pub(crate) fn say_side(
             len,
             wrong,
             front(ones, typed),
-        );
+        )?;
     }
+    Ok(())
 }

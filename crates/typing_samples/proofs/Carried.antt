@@ -1,2 +1,0 @@
-pub mod typing_refusals_fill
-pub mod typing_refusals_holds

@@ -10,7 +10,6 @@ use Rattle.theory.proofs.Lists.{bool_cases}
 use Rattle.theory.specs.Typing.{Side, entry_at, code_at, count_at}
 use Rattle.causes.specs.declared.Cause.{Cause}
 use Rattle.tables.specs.Tables.{Tables}
-use Rattle.tables.specs.InForm.{form_of}
 use Rattle.causes.specs.declared.Answer.{Answer}
 use Rattle.causes.specs.Call.{saying, to_number}
 use Rattle.causes.proofs.Calls.{call_of, answer_with}

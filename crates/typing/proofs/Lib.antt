@@ -1,6 +1,3 @@
-pub mod StateKit
-pub mod HeadKit
-pub mod Carried
 pub mod Moving
 pub mod Ending
 pub mod Refusals

@@ -13,7 +13,7 @@ use lib.Seq.{get_or-take, get_or-set_same, get_or-set_other, drop-set-lt, drop-d
 use borrow.Author.Tests.{le-ltb}
 use Rattle.theory.specs.Dictionary.{Dictionary, Octets}
 use Rattle.theory.specs.Merge.{encode}
-use Rattle.theory.specs.Typing.{Side, Entry, in_order, end_code, check_at, in_form, code_at, count_at, entry_at}
+use Rattle.theory.specs.Typing.{Side, Entry, in_order, check_at, in_form, code_at, count_at, entry_at}
 use Rattle.theory.proofs.Lists.{lt_or_ge, true-false}
 use Rattle.theory.proofs.Encode.{encode-spells}
 use Rattle.theory.proofs.Decoding.{codes_fit}

@@ -1,11 +1,8 @@
 -- What the typing calls answer, and what they leave in the head and in the records: document 01, "Typing and
 -- intervals".
 use Rattle.std.specs.Prelude.{◌≡◌, List, ◌++◌, Bool, ℕ, ◌+◌, ◌<◌, min, length, get_or, take, drop}
-use Rattle.std.proofs.Math.Option.{none, some}
 use Rattle.theory.specs.Typing as Typing
-use Rattle.causes.specs.declared.Cause.{Cause}
 use Rattle.tables.specs.Tables.{Tables}
-use Rattle.tables.specs.InForm.{form_of}
 use Rattle.causes.specs.declared.Answer.{Answer}
 use Rattle.causes.specs.Call.{Call, to_number, no_buffer}
 use Rattle.built_tables.specs.Built.{dictionary_of, Built}

@@ -3,6 +3,8 @@
 // values and call functions by value. Only these need proofs that tools/carry makes, from twins on arrays: by hand each
 // would have to be walked again when a record gains a field. The direction is an argument, so that appending and
 // prepending share each function and each proof.
+#![tactic(auto)]
+
 ghost use Rattle.std.specs.Prelude.{◌≡◌, [], ◌∷◌, min, length};
 ghost use Rattle.causes.specs.Call.{saying, to_number};
 ghost use Rattle.typing_columns.specs.Sides.{side_of};

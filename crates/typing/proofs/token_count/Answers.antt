@@ -1,0 +1,9 @@
+-- `typing::token_count` meets its contract. Assumes nothing.
+use Rattle.typing.proofs.Calling.{ready, token_counted}
+use Rattle.typing.proofs.token_count.Goals as goal
+
+pub copy_out-requires : goal.copy_out-requires
+copy_out-requires c = ready _ _ _ c.usable.ensures
+
+pub returns : goal.returns
+returns c = token_counted _ _ _ _ _ _ _ _ _ _ c.length_of_head-len.ensures c.usable.ensures c.copy_out.ensures c.count_columns.ensures

@@ -16,7 +16,6 @@ use Rattle.causes.proofs.Calls.{some-none, numbers_apart, value-given, refused-g
 use Rattle.tables.specs.Tables.{Tables}
 use Rattle.causes.specs.declared.Answer.{Answer}
 use Rattle.causes.specs.declared.Answer.TheVariants.{Number, Refused}
-use Rattle.tables.specs.InForm.{form_of}
 use Rattle.built_tables.specs.Built.{dictionary_of, Built}
 use Rattle.built_tables.proofs.Rows.{lawful-is}
 use Rattle.byte_pair_encoding.specs.Sending.{Written, Sends}
@@ -26,7 +25,6 @@ use Rattle.byte_pair_encoding.proofs.Refusals.{count_as_send, not_refused, no-re
 use Rattle.byte_pair_encoding.proofs.Promises.{sending_allowed}
 use Rattle.typing.specs.Text.{TextTyped}
 use Rattle.agreement.specs.declared.Agreement.{Agreement}
-use Rattle.agreement.specs.declared.Agreement.TheVariants as Agreement
 use Rattle.typing_columns.specs.Columns.{last_count}
 use Rattle.agreement.specs.Agreement.{agreement_of, TypedCount, Compared, AsMerged, Agrees}
 

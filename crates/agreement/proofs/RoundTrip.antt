@@ -1,5 +1,5 @@
 -- The round trip, once for all encoders: what an encoder left in the output spells the text and is not refused as codes to decode. Assumes nothing.
-use mathlib.Core.Path.{◌≡◌, sym, ap, subst, ◌∙◌}
+use mathlib.Core.Path.{◌≡◌, sym, ap, ◌∙◌}
 use mathlib.Core.Option.{none}
 use mathlib.Core.List.{List, ◌++◌}
 use Prim.Native.Nat.{ℕ, ◌≤◌, ◌<◌}
@@ -22,9 +22,9 @@ use Rattle.built_tables.specs.Built.{dictionary_of, Built}
 use Rattle.built_tables.proofs.InForm.{is_in_form}
 use Rattle.byte_pair_encoding.specs.Sending.{Sends}
 use Rattle.byte_pair_encoding.proofs.Refusals.{no-refusal}
-use Rattle.decoder.specs.Decoding.{decode_refusal, Decodes}
+use Rattle.decoder.specs.Decoding.{decode_refusal}
 use Rattle.decoder.proofs.Decoding.{decode_of}
-use Rattle.agreement.specs.RoundTrip.{TextBack, DecodesBack, RoundTrip}
+use Rattle.agreement.specs.RoundTrip.{DecodesBack, RoundTrip}
 
 -- codes that spell the text, over accepted rows and a text of octets
 abbrev Spells : (Dictionary → List ℕ → List ℕ) → Type 0

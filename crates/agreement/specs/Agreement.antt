@@ -1,5 +1,5 @@
 -- What the sender and the counters say of one text, and what they leave.
-use Rattle.std.specs.Prelude.{◌≡◌, List, ◌++◌, cond, ◌&&◌, ℕ, zero, suc, ◌≤◌, ◌<◌, min, length, get_or, drop, eqb}
+use Rattle.std.specs.Prelude.{◌≡◌, List, ◌++◌, cond, ◌&&◌, ℕ, ◌≤◌, ◌<◌, min, length, get_or, drop, eqb}
 use Rattle.std.proofs.Math.Option.{Option, none, some}
 use Rattle.causes.specs.declared.Cause.{Cause}
 use Rattle.theory.specs.Merge.{encode}

@@ -1,6 +1,8 @@
 // The sender against the counters on one text: demand 3 as a promise about code. The whole demand is one record,
 // `Demand3` in specs/Demand3.antt; that decoding gives the text is `RoundTrip` in specs/RoundTrip.antt. Their premises
 // are the contracts' own records, so that a reader goes from a statement to the function in one step.
+#![tactic(auto)]
+
 ghost use Rattle.agreement.specs.Agreement.{TypedCount, Agrees};
 ghost use Rattle.tables.specs.Tables.{lent, before, after};
 

@@ -1,5 +1,7 @@
 // Core calls in a loop, exported for the benchmark alone: a public call checks the tables, which takes far longer
 // than one of them.
+#![tactic(auto)]
+
 ghost use Rattle.std.specs.Prelude.{◌≡◌, ◌≤◌, ◌<◌, length};
 ghost use Rattle.marks.specs.Layout.{area_size};
 ghost use Rattle.placed_rows.specs.Rows.{row, Placed};

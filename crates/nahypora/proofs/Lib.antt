@@ -1,3 +1,2 @@
 pub mod Packing
 pub mod Sided
-pub mod Carried

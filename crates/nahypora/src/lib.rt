@@ -2,13 +2,15 @@
 // length in elements. Each returns one number: the cause's number (0 for an answer) times 2^32, plus the place or the
 // answer's number. It is a number because an exported call cannot return an enum. The side of the typing calls is a
 // number too, of which any but 0 prepends, so that no refusal is needed for one without a meaning.
+#![tactic(auto)]
+
 ghost use Rattle.std.specs.Prelude.{◌≡◌, [], ◌∷◌};
 ghost use Rattle.causes.specs.declared.Answer.{Answer};
 ghost use Rattle.causes.specs.declared.BuildAnswer.{BuildAnswer};
 ghost use Rattle.causes.specs.declared.LimitAnswer.{LimitAnswer};
 ghost use Rattle.causes.specs.declared.PairAnswer.{PairAnswer};
 ghost use Rattle.causes.specs.Causes.{build_answer_of, answer_of, pair_answer_of, limit_answer_of};
-ghost use Rattle.tables.specs.Tables.{lent, left, before, after};
+ghost use Rattle.tables.specs.Tables.{lent, lent_to_fill, left};
 ghost use Rattle.tables.specs.Answers.{NumTokens, TokenLen};
 ghost use Rattle.byte_pair_encoding.specs.Pair.{PairChecked};
 ghost use Rattle.dictionary.specs.Build.{BuildIs};

@@ -17,7 +17,7 @@ use Rattle.theory.proofs.Typing.{same-form, trues_form, count_at-last}
 use Rattle.causes.specs.declared.Cause.TheVariants.{TooLong, Full}
 use Rattle.causes.specs.Order.{other_order, when, over, first_of}
 use Rattle.tables.specs.Tables.{Tables}
-use Rattle.tables.specs.InForm.{form_of, all_below}
+use Rattle.tables.specs.InForm.{all_below}
 use Rattle.tables.proofs.Sweeps.{each_all}
 use Rattle.built_tables.specs.Built.{dictionary_of, Built}
 use Rattle.built_tables.proofs.Rows.{lawful-is, known}

@@ -1,4 +1,0 @@
-pub mod typing_calls_bpe_extend
-pub mod typing_calls_bpe_push
-pub mod typing_calls_bpe_token_count
-pub mod typing_calls_bpe_truncate

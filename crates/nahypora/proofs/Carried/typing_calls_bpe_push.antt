@@ -1,2 +1,0 @@
-pub mod Kinds
-pub mod Reads

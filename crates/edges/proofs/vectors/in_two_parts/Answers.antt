@@ -4,7 +4,8 @@ use Rattle.fnv.specs.Fnv.{fnv_offset, fnv}
 use Rattle.fnv.proofs.Laws.{fnv-cut}
 use Rattle.edges.proofs.vectors.in_two_parts.Goals as goal
 
-two-parts : (k : ℕ) (s : List ℕ) {first r : ℕ} → first ≡ fnv fnv_offset (take k s) → r ≡ fnv first (take (length s - k) (drop k s)) → r ≡ fnv fnv_offset s
+two-parts : (k : ℕ) (s : List ℕ) {first r : ℕ} → first ≡ fnv fnv_offset (take k s)
+    → r ≡ fnv first (take (length s - k) (drop k s)) → r ≡ fnv fnv_offset s
 two-parts k s e f =
     let all = take_all (length s - k) (drop k s) (omega (arith, length-drop k s)) in
     rw (f, e, all, fnv-cut)

@@ -1,8 +1,8 @@
 #!/usr/bin/env python3
-"""The must-fail edits by public call, and which edit shows each wrong program that document 01 names. An edit of the
-gate says in its first lines what it is an edit of ('call: NAME', or several with commas) and, where it is one of
-document 01's, which ('shows: WORDS'). Says what is missing: a public call with fewer than two edits of its program, a
-wrong program that no edit of a program shows."""
+"""The must-fail edits by public call, and which edit shows each wrong program that document 01 names. An edit may say in
+its first lines what it is an edit of ('call: NAME', or several with commas) and, where it is one of document 01's, which
+('shows: WORDS'). Says what is missing: a public call with fewer than two edits of its program, a wrong program that no
+edit of a program shows."""
 import glob, sys
 
 CALLS = [
@@ -34,17 +34,13 @@ for file in sorted(glob.glob('crates/*/must-fail/*.edit')):
     text = open(file).read()
     _, crate, _, label = file.split('/')
     edits.append((f'{crate}/{label[:-5]}', field(text, 'call').split(', '), field(text, 'shows'), 'file: src/' in text))
-long = {}
-for file in glob.glob('crates/*/must-fail/long/*.edit'):
-    crate = file.split('/')[1]
-    long[crate] = long.get(crate, 0) + 1
 
-missing = [f'{name} has no call: line' for name, calls, _, _ in edits if not all(calls)]
+missing = []
 
 
 def table(head, rows):
     """a row for each name; what it belongs to stands in the first of its rows"""
-    print(f'| {head} | edits of the gate |\n|---|---|')
+    print(f'| {head} | edits |\n|---|---|')
     for what, names in rows:
         for k, name in enumerate(names or ['']):
             print(f'| {"" if k else what} | {name} |')
@@ -59,7 +55,7 @@ for call in CALLS:
     rows.append((call, [name for name, _ in of_call]))
 table('public call', rows)
 
-others = sorted({c for _, calls, _, _ in edits for c in calls if c not in CALLS})
+others = sorted({c for _, calls, _, _ in edits for c in calls if c and c not in CALLS})
 table('definition or function beside them', [(o, [name for name, calls, _, _ in edits if o in calls]) for o in others])
 
 for kind, head in (('condition 3', "wrong program of document 01's condition 3"), ('trap', 'trap of document 01')):
@@ -71,13 +67,10 @@ for kind, head in (('condition 3', "wrong program of document 01's condition 3")
         rows.append((wrong[len(kind) + 2:], shown))
     table(head, rows)
 
-print('| crate | in the gate | in the long list |\n|---|---|---|')
-gate = {}
-for name, _, _, _ in edits:
-    gate[name.split('/')[0]] = gate.get(name.split('/')[0], 0) + 1
-for crate in sorted(set(gate) | set(long)):
-    print(f'| {crate} | {gate.get(crate, 0)} | {long.get(crate, 0)} |')
-print(f'| all | {len(edits)} | {sum(long.values())} |')
+print('| crate | edits | of them with a call above |\n|---|---|---|')
+for crate in [*sorted({name.split('/')[0] for name, _, _, _ in edits}), '']:
+    here = [all(calls) for name, calls, _, _ in edits if name.startswith(f'{crate}/') or not crate]
+    print(f'| {crate or "all"} | {len(here)} | {sum(here)} |')
 for line in missing:
     print(f'MISSING: {line}')
 sys.exit(1 if missing else 0)

@@ -1,7 +1,8 @@
 #!/bin/sh
-# From the season's sheet to a page, then the sheet sorted by its notes. Run at the top of the repository, after `rt check phrases`.
+# From the season's sheet to a page, then the sheet sorted by its notes. Run at the top of the repository, when the program
+# crates/phrases/out/phrases is built (`make demo` does).
 set -eu
-tool=target/bin/phrases
+tool=crates/phrases/out/phrases
 out=target/demo
 mkdir -p "$out"
 run() {

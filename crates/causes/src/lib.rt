@@ -1,6 +1,8 @@
 // Why a call is refused, for all calls, and what calls answer. An answer's number is 0 if it is no refusal, and its
 // place is then its value. Every call that can be refused promises by one record, `Call` in specs/, so that it states
 // only its conditions and what it gives.
+#![tactic(auto)]
+
 ghost use Rattle.std.specs.Prelude.{◌≡◌};
 ghost use Rattle.causes.specs.Causes.{refusal_of, build_answer_of, answer_of, pair_answer_of, limit_answer_of};
 

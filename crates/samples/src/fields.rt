@@ -98,7 +98,7 @@ fn escape(line: &[u8]) -> usize {
 }
 
 // That byte.
-fn first_byte_lem(line: &[u8]) -> u8 {
+fn first_byte(line: &[u8]) -> u8 {
     if line.len() == 0 {
         return 0;
     }
@@ -118,7 +118,7 @@ pub(crate) fn unescape(line: &[u8], out: &mut [u8], from: usize) -> usize {
     let mut at = 0;
     while at < line.len() {
         let left = part(line, at, line.len());
-        end = put(out, end, first_byte_lem(left));
+        end = put(out, end, first_byte(left));
         let more = escape(left);
         if line.len() - at <= more {
             return end;

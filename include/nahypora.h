@@ -1,4 +1,4 @@
-/* The phrase codes library, for C. `rt staticlib nahypora` writes target/staticlib/libnahypora.a.
+/* The phrase codes library, for C. `rt lib` in crates/nahypora writes crates/nahypora/out/libnahypora.a.
  *
  * A phrase file has 256 to 4,096 rows; per row a mark C7 51, one length byte 1 to 64, then the bytes. n is the count of rows; a code is
  * a row's number. bpe_from_dictionary fills four tables of n numbers (or more) and a search area of 16,384; all other calls take the file

@@ -26,7 +26,8 @@ WRONG = [
 
 
 def field(text, name):
-    return next((line[len(name) + 2:] for line in text.split('\n') if line.startswith(name + ': ')), '')
+    lines = (line.removeprefix('# ') for line in text.split('\n'))
+    return next((line[len(name) + 2:] for line in lines if line.startswith(name + ': ')), '')
 
 
 edits = []  # name, call, what it shows, whether it edits a program

@@ -1,52 +1,33 @@
 -- One scheme for every call: why it is refused, what it then keeps, what it gives else, and document 01's number and
 -- value of its answer.
-use Rattle.std.specs.Prelude.{◌≡◌, refl, Bool, ℕ}
+use Rattle.std.specs.Prelude.{◌≡◌, Bool, cond, ℕ, Result, Ok, Err}
 use Rattle.std.proofs.Math.Option.{Option, none, some}
 use Rattle.causes.specs.declared.Cause.{Cause}
-use Rattle.causes.specs.declared.BuildAnswer.{BuildAnswer}
-use Rattle.causes.specs.declared.BuildAnswer.TheVariants as BuildAnswer
-use Rattle.causes.specs.declared.Answer.{Answer}
-use Rattle.causes.specs.declared.Answer.TheVariants as Answer
-use Rattle.causes.specs.declared.PairAnswer.{PairAnswer}
-use Rattle.causes.specs.declared.PairAnswer.TheVariants as PairAnswer
-use Rattle.causes.specs.Causes.{Refusal, refusal_of, build_answer_of, answer_of, pair_answer_of}
-
--- an enum of answers A, whose values are of type X: how it tells a value or a cause, and "this paper's number and
--- values for each enum case"
-pub record Told (A X : Type 0) : Type 0 where
-  pub given : X → A
-  pub refused : Cause → A
-  pub numbers : A → Refusal
-  pub causes : (cause : Cause) → numbers (refused cause) ≡ refusal_of cause
+use Rattle.causes.specs.Causes.{Refusal, refusal_of, answered}
 
 -- the answer: the refusal if there is one, else the value
-abbrev pub saying : {A X : Type 0} → Told A X → Option Cause → X → A
-saying t none x = t.given x
-saying t (some cause) x = t.refused cause
+abbrev pub saying : {X : Type 0} → Option Cause → X → Result X Cause
+saying none x = Ok x
+saying (some cause) x = Err cause
 
--- the number and the value of the same
-abbrev pub paper : {A X : Type 0} → Told A X → Option Cause → X → Refusal
-paper t none x = t.numbers (t.given x)
-paper t (some cause) x = refusal_of cause
+-- the number and the value of the same; told says the value of what is no refusal
+abbrev pub paper : {X : Type 0} → (X → ℕ) → Option Cause → X → Refusal
+paper told none x = record { number = 0; place = told x }
+paper told (some cause) x = refusal_of cause
 
--- the answers: a count of rows, a number, whether a pair passes
-abbrev pub to_rows : Told BuildAnswer ℕ
-to_rows =
-    record { given = BuildAnswer.Rows; refused = BuildAnswer.Refused; numbers = build_answer_of; causes = λ cause. refl }
+-- the answers: a number, whether a pair passes
+abbrev pub to_number : ℕ → ℕ
+to_number n = n
 
-abbrev pub to_number : Told Answer ℕ
-to_number = record { given = Answer.Number; refused = Answer.Refused; numbers = answer_of; causes = λ cause. refl }
-
-abbrev pub to_passes : Told PairAnswer Bool
-to_passes =
-    record { given = PairAnswer.Passes; refused = PairAnswer.Refused; numbers = pair_answer_of; causes = λ cause. refl }
+abbrev pub to_passes : Bool → ℕ
+to_passes b = cond b 1 0
 
 -- a call with this answer: refused, it keeps what its cause says ("Buffers after"); else `done` holds of its value
-pub record Call {A X : Type 0} (t : Told A X) (refusal : Option Cause) (kept : Cause → Type 0) (done : X → Type 0)
-    (r : A) : Type 0 where
+pub record Call {X : Type 0} (tells : X → ℕ) (refusal : Option Cause) (kept : Cause → Type 0) (done : X → Type 0)
+    (r : Result X Cause) : Type 0 where
   pub value : X
-  pub answer : r ≡ saying t refusal value
-  pub told : t.numbers r ≡ paper t refusal value
+  pub answer : r ≡ saying refusal value
+  pub told : answered tells r ≡ paper tells refusal value
   pub refused : (cause : Cause) → refusal ≡ some cause → kept cause
   pub given : refusal ≡ none → done value
 

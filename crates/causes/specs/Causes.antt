@@ -1,18 +1,10 @@
 -- The causes of document 01, and 13 of document 02: the number of each, the place that is returned with it, and the
 -- same for every answer.
-use Rattle.std.specs.Prelude.{cond, ℕ}
+use Rattle.std.specs.Prelude.{Bool, cond, ℕ, Option, Some, None, Result, Ok, Err}
 use Rattle.causes.specs.declared.Cause.{Cause}
 use Rattle.causes.specs.declared.Cause.TheVariants.{FactorZero, BadRecord, RowCount, MissingByte, EqualRow}
 use Rattle.causes.specs.declared.Cause.TheVariants.{NoParts, TooShort, OutOfForm, TooLong, UnknownCode}
 use Rattle.causes.specs.declared.Cause.TheVariants.{BadInterval, Full, SameHash}
-use Rattle.causes.specs.declared.BuildAnswer.{BuildAnswer}
-use Rattle.causes.specs.declared.BuildAnswer.TheVariants as BuildAnswer
-use Rattle.causes.specs.declared.Answer.{Answer}
-use Rattle.causes.specs.declared.Answer.TheVariants as Answer
-use Rattle.causes.specs.declared.PairAnswer.{PairAnswer}
-use Rattle.causes.specs.declared.PairAnswer.TheVariants as PairAnswer
-use Rattle.causes.specs.declared.LimitAnswer.{LimitAnswer}
-use Rattle.causes.specs.declared.LimitAnswer.TheVariants as LimitAnswer
 
 -- the number of a cause ("No.") and its place ("Returned place"); of an answer that is no refusal, 0 and its value
 pub record Refusal : Type 0 where
@@ -35,25 +27,24 @@ refusal_of BadInterval = record { number = 11; place = 0 }
 refusal_of (Full size) = record { number = 12; place = size }
 refusal_of (SameHash row) = record { number = 13; place = row }
 
--- "When an answer is an enum, a definition gives this paper's number and values for each enum case."
+-- "When an answer is an enum, a definition gives this paper's number and values for each enum case.": told says the
+-- value of what is no refusal
+abbrev pub answered : {X : Type 0} → (X → ℕ) → Result X Cause → Refusal
+answered told (Ok x) = record { number = 0; place = told x }
+answered told (Err cause) = refusal_of cause
 
--- build: the count of rows
-abbrev pub build_answer_of : BuildAnswer → Refusal
-build_answer_of (BuildAnswer.Rows n) = record { number = 0; place = n }
-build_answer_of (BuildAnswer.Refused cause) = refusal_of cause
-
--- the calls that answer a number
-abbrev pub answer_of : Answer → Refusal
-answer_of (Answer.Number count) = record { number = 0; place = count }
-answer_of (Answer.Refused cause) = refusal_of cause
+-- the calls that answer a number, and build, which answers the count of rows
+abbrev pub answer_of : Result ℕ Cause → Refusal
+answer_of = answered (λ (n : ℕ). n)
 
 -- the pair check: 1 if the pair passes, else 0
-abbrev pub pair_answer_of : PairAnswer → Refusal
-pair_answer_of (PairAnswer.Passes b) = record { number = 0; place = cond b 1 0 }
-pair_answer_of (PairAnswer.Refused cause) = refusal_of cause
+abbrev pub pair_answer_of : Result Bool Cause → Refusal
+pair_answer_of = answered (λ (b : Bool). cond b 1 0)
 
 -- the count with a limit: the count, and none, which is 4294967295, for "over"
-abbrev pub limit_answer_of : LimitAnswer → Refusal
-limit_answer_of (LimitAnswer.Counted count) = record { number = 0; place = count }
-limit_answer_of LimitAnswer.Over = record { number = 0; place = 4294967295 }
-limit_answer_of (LimitAnswer.Refused cause) = refusal_of cause
+abbrev pub limit_place : Option ℕ → ℕ
+limit_place (Some count) = count
+limit_place None = 4294967295
+
+abbrev pub limit_answer_of : Result (Option ℕ) Cause → Refusal
+limit_answer_of = answered limit_place

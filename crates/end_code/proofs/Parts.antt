@@ -1,26 +1,23 @@
 -- The parts of rows as they are read. Assumes nothing.
-use mathlib.Core.Path.{◌≡◌, refl}
+use mathlib.Core.Path.{◌≡◌}
 use mathlib.Core.Logic.{◌⊎◌, inl, inr, ⊎_elim}
 use mathlib.Core.List.{List, []}
-use mathlib.Core.Bool.{not, Bool, true, false}
+use mathlib.Core.Bool.{true, false}
 use Prim.Native.Nat.{ℕ, ◌<◌}
 use native.Mathlib.Decide.{ℕ_discrete}
-use native.Mathlib.Numerals.{add-one}
 use native.Mathlib.Omega.{arith}
 use lib.ListN.{length, get_or}
 use Rattle.phrase_file.specs.Form.{rows}
 use Rattle.theory.specs.Dictionary.{Dictionary}
-use Rattle.theory.specs.FirstJoin.{bound_at, inner_part, other_part}
+use Rattle.theory.specs.FirstJoin.{inner_part, other_part}
 use Rattle.pair_check.proofs.Joins as Pairs
 use Rattle.built_tables.specs.Built.{dictionary_of, Built}
 use Rattle.built_tables.proofs.Rows.{tells}
 use Rattle.end_code.specs.Tables.{PartsInForm}
-use Rattle.end_code.specs.Joins.{side_of, bound_of, part_of, PartReady}
+use Rattle.theory.specs.Typing.{Side, append, prepend}
+use Rattle.end_code.specs.Sides.{inner_of, other_of}
+use Rattle.end_code.specs.Joins.{PartReady}
 use Rattle.tables.specs.Tables.{PairTables, with_prefixes}
-
-pub bound-is : (at-end : Bool) (x : ℕ) → bound_of at-end x ≡ bound_at (side_of at-end) x
-bound-is true x = refl
-bound-is false x = add-one x
 
 module _ (P : PairTables) (n : ℕ) (R : PartsInForm P n) (x : ℕ) (h : x < n) where
   open P use {file, lefts, rights}
@@ -36,37 +33,37 @@ module _ (P : PairTables) (n : ℕ) (R : PartsInForm P n) (x : ℕ) (h : x < n) 
   part-ready = record { left_room = omega (arith, R.parts_ready.left_room); right_room = omega (arith, R.parts_ready.right_room) }
 
   -- a part is a row
-  pub other_row : (at-end : Bool) → part_of lefts rights (not at-end) x < n
-  other_row true = ⊎_elim (λ o. omega (arith, (R.parts_ready.single x h o).0)) (λ l. omega (arith, (R.parts_ready.lower x h l).left)) sized
-  other_row false = ⊎_elim (λ o. omega (arith, (R.parts_ready.single x h o).1)) (λ l. omega (arith, (R.parts_ready.lower x h l).right)) sized
+  pub other_row : (side : Side) → other_of lefts rights side x < n
+  other_row append = ⊎_elim (λ o. omega (arith, (R.parts_ready.single x h o).0)) (λ l. omega (arith, (R.parts_ready.lower x h l).left)) sized
+  other_row prepend = ⊎_elim (λ o. omega (arith, (R.parts_ready.single x h o).1)) (λ l. omega (arith, (R.parts_ready.lower x h l).right)) sized
 
   -- a part that differs from its row is lower
-  pub inner-lower : (at-end : Bool) → (part_of lefts rights at-end x ≡ x → ⊥) → part_of lefts rights at-end x < x
-  inner-lower true d = ⊎_elim (λ o. absurd (d (R.parts_ready.single x h o).1)) (λ l. (R.parts_ready.lower x h l).right) sized
-  inner-lower false d = ⊎_elim (λ o. absurd (d (R.parts_ready.single x h o).0)) (λ l. (R.parts_ready.lower x h l).left) sized
+  pub inner-lower : (side : Side) → (inner_of lefts rights side x ≡ x → ⊥) → inner_of lefts rights side x < x
+  inner-lower append d = ⊎_elim (λ o. absurd (d (R.parts_ready.single x h o).1)) (λ l. (R.parts_ready.lower x h l).right) sized
+  inner-lower prepend d = ⊎_elim (λ o. absurd (d (R.parts_ready.single x h o).0)) (λ l. (R.parts_ready.lower x h l).left) sized
 
   module _ (prefixes : List ℕ) (B : Built (with_prefixes P prefixes) n) where
     abbrev D : Dictionary
     D = dictionary_of file
 
-    pub inner-is : (at-end : Bool) → part_of lefts rights at-end x ≡ inner_part D (side_of at-end) x
-    inner-is true = B.rights_are x h
-    inner-is false = B.lefts_are x h
+    pub inner-is : (side : Side) → inner_of lefts rights side x ≡ inner_part D side x
+    inner-is append = B.rights_are x h
+    inner-is prepend = B.lefts_are x h
 
-    pub other-is : (at-end : Bool) → part_of lefts rights (not at-end) x ≡ other_part D (side_of at-end) x
-    other-is true = B.lefts_are x h
-    other-is false = B.rights_are x h
+    pub other-is : (side : Side) → other_of lefts rights side x ≡ other_part D side x
+    other-is append = B.lefts_are x h
+    other-is prepend = B.rights_are x h
 
-    pub inner-long : (at-end : Bool) → (part_of lefts rights at-end x ≡ x → ⊥) → D.long x ≡ true
-    inner-long at-end d = ⊎_elim (λ o. absurd (d (single at-end o))) (λ l. Pairs.long file lefts rights n D (tells (with_prefixes P prefixes) n B) x h l) sized
+    pub inner-long : (side : Side) → (inner_of lefts rights side x ≡ x → ⊥) → D.long x ≡ true
+    inner-long side d = ⊎_elim (λ o. absurd (d (single side o))) (λ l. Pairs.long file lefts rights n D (tells (with_prefixes P prefixes) n B) x h l) sized
       where
-        single : (at-end : Bool) → length (get_or (rows file) x []) ≡ 1 → part_of lefts rights at-end x ≡ x
-        single true o = (R.parts_ready.single x h o).1
-        single false o = (R.parts_ready.single x h o).0
+        single : (side : Side) → length (get_or (rows file) x []) ≡ 1 → inner_of lefts rights side x ≡ x
+        single append o = (R.parts_ready.single x h o).1
+        single prepend o = (R.parts_ready.single x h o).0
 
-    pub inner-single : (at-end : Bool) → part_of lefts rights at-end x ≡ x → D.long x ≡ false
-    inner-single at-end e = ⊎_elim (λ o. Pairs.short file lefts rights n D (tells (with_prefixes P prefixes) n B) x h o) (λ l. absurd (lower at-end l e)) sized
+    pub inner-single : (side : Side) → inner_of lefts rights side x ≡ x → D.long x ≡ false
+    inner-single side e = ⊎_elim (λ o. Pairs.short file lefts rights n D (tells (with_prefixes P prefixes) n B) x h o) (λ l. absurd (lower side l e)) sized
       where
-        lower : (at-end : Bool) → 1 < length (get_or (rows file) x []) → part_of lefts rights at-end x ≡ x → ⊥
-        lower true l e = let z = (R.parts_ready.lower x h l).right in omega arith
-        lower false l e = let z = (R.parts_ready.lower x h l).left in omega arith
+        lower : (side : Side) → 1 < length (get_or (rows file) x []) → inner_of lefts rights side x ≡ x → ⊥
+        lower append l e = let z = (R.parts_ready.lower x h l).right in omega arith
+        lower prepend l e = let z = (R.parts_ready.lower x h l).left in omega arith

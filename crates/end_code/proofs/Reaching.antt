@@ -2,7 +2,6 @@
 use mathlib.Core.Path.{◌≡◌, refl, sym, ap, ◌∙◌}
 use mathlib.Core.Logic.{⊎_elim}
 use mathlib.Core.List.{List, [], ◌∷◌, ◌++◌, reverse-append}
-use mathlib.Core.Bool.{not, Bool}
 use Prim.Native.Nat.{ℕ, suc, ◌+◌, ◌-◌, ◌≤◌, ◌<◌}
 use native.Mathlib.Omega.{arith}
 use lib.ListN.{length, length-append, get_or, take}
@@ -17,7 +16,8 @@ use Rattle.theory.proofs.FirstJoin.{beside, Reached, reached-byte, reached-all, 
 use Rattle.built_tables.specs.Built.{dictionary_of, Built}
 use Rattle.built_tables.proofs.Rows.{lawful-is, known}
 use Rattle.end_code.specs.Tables.{RowReady}
-use Rattle.end_code.specs.Joins.{side_of, part_of, PartReady, FirstReady, FirstIs}
+use Rattle.end_code.specs.Sides.{other_of}
+use Rattle.end_code.specs.Joins.{PartReady, FirstReady, FirstIs}
 use Rattle.end_code.specs.Codes.{ByteReady, ByteIs, CodesTo, CodeReady, CodeIs}
 use Rattle.end_code.proofs.Sizes.{read-size, row-some}
 use Rattle.end_code.proofs.Parts.{part-ready, other_row, other-is}
@@ -45,27 +45,24 @@ left_of_lem side s rest row e =
     )
 
 -- code has been reached, beside the first `at` typed bytes
-pub record Reaching (P : PairTables) (at-end : Bool) (n : ℕ) (bytes : List ℕ) (i : ℕ) (codes : List ℕ) (code at : ℕ) : Type 0 where
+pub record Reaching (P : PairTables) (side : Side) (n : ℕ) (bytes : List ℕ) (i : ℕ) (codes : List ℕ) (code at : ℕ) : Type 0 where
   pub ready : CodeReady P n bytes i codes
   pub row : code < n
   pub within : at ≤ i
-  pub built : (prefixes : List ℕ) (B : Built (with_prefixes P prefixes) n) → CodesTo P.file at-end bytes codes i
-      → Reached (dictionary_of P.file) (lawful-is (with_prefixes P prefixes) n B) (side_of at-end) (in_order (side_of at-end) (take (suc i) bytes)) code (in_order (side_of at-end) (take at bytes))
+  pub built : (prefixes : List ℕ) (B : Built (with_prefixes P prefixes) n) → CodesTo P.file side bytes codes i
+      → Reached (dictionary_of P.file) (lawful-is (with_prefixes P prefixes) n B) side (in_order side (take (suc i) bytes)) code (in_order side (take at bytes))
 
-module _ (P : PairTables) (at-end : Bool) (n : ℕ) (bytes : List ℕ) (i : ℕ) (codes : List ℕ) where
+module _ (P : PairTables) (side : Side) (n : ℕ) (bytes : List ℕ) (i : ℕ) (codes : List ℕ) where
   open P use {file, places, lefts, rights, area}
 
   abbrev D : Dictionary
   D = dictionary_of file
 
-  abbrev side : Side
-  side = side_of at-end
-
   pub byte-ready : CodeReady P n bytes i codes → ByteReady file places area n bytes i
   byte-ready R = record { places_ready = R.is_in_form.places_ready; area_room = R.is_in_form.area_room; inside = R.inside }
 
   pub reach-start : CodeReady P n bytes i codes → get_or bytes i 0 < 256 → (r : ℕ) → ByteIs file places area n bytes i r
-      → Reaching P at-end n bytes i codes r i
+      → Reaching P side n bytes i codes r i
   reach-start R o r F = record {
     ready = R;
     row = F.row;
@@ -76,13 +73,13 @@ module _ (P : PairTables) (at-end : Bool) (n : ℕ) (bytes : List ℕ) (i : ℕ)
         (reached-byte D (lawful-is (with_prefixes P prefixes) n B) side (in_order side (take i bytes)) (get_or bytes i 0) k);
   }
 
-  module _ (code at : ℕ) (S : Reaching P at-end n bytes i codes code at) where
+  module _ (code at : ℕ) (S : Reaching P side n bytes i codes code at) where
     is_code : (r : ℕ) → end_code side (encode D (in_order side (take (suc i) bytes))) ≡ r → r ≡ code_at D side bytes i
     unfolding code_at
     is_code r e = sym e
 
     -- nothing is left before it
-    pub reach-all : at ≤ 0 → CodeIs P at-end n bytes i codes code
+    pub reach-all : at ≤ 0 → CodeIs P side n bytes i codes code
     reach-all h = record {
       row = S.row;
       built = λ prefixes B agree.
@@ -105,7 +102,7 @@ module _ (P : PairTables) (at-end : Bool) (n : ℕ) (bytes : List ℕ) (i : ℕ)
       size = let h = S.within in let g = S.ready.inside in length-take-le at bytes (omega arith)
 
       -- the end code of the bytes before it
-      before-end : (prefixes : List ℕ) (B : Built (with_prefixes P prefixes) n) → CodesTo file at-end bytes codes i
+      before-end : (prefixes : List ℕ) (B : Built (with_prefixes P prefixes) n) → CodesTo file side bytes codes i
           → EndOf D (lawful-is (with_prefixes P prefixes) n B) side (in_order side (take at bytes)) (get_or codes (at - 1) 0)
       unfolding code_at
       before-end prefixes B agree =
@@ -115,8 +112,8 @@ module _ (P : PairTables) (at-end : Bool) (n : ℕ) (bytes : List ℕ) (i : ℕ)
           rw c (end_of D (lawful-is (with_prefixes P prefixes) n B) side (in_order side (take at bytes))
           (λ z. omega (arith, ap length z, length-in_order side (take at bytes), size)))
 
-      module _ (r : ℕ) (F : FirstIs P at-end n (get_or codes (at - 1) 0) code r) where
-        pub reach-end : r ≡ none → CodeIs P at-end n bytes i codes code
+      module _ (r : ℕ) (F : FirstIs P side n (get_or codes (at - 1) 0) code r) where
+        pub reach-end : r ≡ none → CodeIs P side n bytes i codes code
         reach-end z = record {
           row = S.row;
           built = λ prefixes B agree.
@@ -131,10 +128,10 @@ module _ (P : PairTables) (at-end : Bool) (n : ℕ) (bytes : List ℕ) (i : ℕ)
           pub joined-part : PartReady lefts rights r
           joined-part = part-ready P n S.ready.is_in_form r joined-row
 
-          pub joined-other : (o : ℕ) → o ≡ part_of lefts rights (not at-end) r → o < n
-          joined-other o e = rw e (other_row P n S.ready.is_in_form r joined-row at-end)
+          pub joined-other : (o : ℕ) → o ≡ other_of lefts rights side r → o < n
+          joined-other o e = rw e (other_row P n S.ready.is_in_form r joined-row side)
 
-          module _ (o len : ℕ) (eo : o ≡ part_of lefts rights (not at-end) r) (x : ℕ) (el : len ≡ length (row file places n x)) (ex : x ≡ o) where
+          module _ (o len : ℕ) (eo : o ≡ other_of lefts rights side r) (x : ℕ) (el : len ≡ length (row file places n x)) (ex : x ≡ o) where
             row-ready : RowReady file places n o
             row-ready = record { places_ready = S.ready.is_in_form.places_ready; row = joined-other o eo }
 
@@ -144,12 +141,12 @@ module _ (P : PairTables) (at-end : Bool) (n : ℕ) (bytes : List ℕ) (i : ℕ)
             pub len-some : 0 < len
             len-some = omega (arith, len_is, row-some file places n o row-ready)
 
-            left : (prefixes : List ℕ) (B : Built (with_prefixes P prefixes) n) → CodesTo file at-end bytes codes i
+            left : (prefixes : List ℕ) (B : Built (with_prefixes P prefixes) n) → CodesTo file side bytes codes i
                 → (len ≤ at) × Reached D (lawful-is (with_prefixes P prefixes) n B) side (in_order side (take (suc i) bytes)) r (in_order side (take (at - len) bytes))
             left prefixes B agree =
                 let J = reached-join D (lawful-is (with_prefixes P prefixes) n B) side (in_order side (take (suc i) bytes)) code (in_order side (take at bytes)) (S.built prefixes B agree)
                 (get_or codes (at - 1) 0) (before-end prefixes B agree) r (F.built prefixes B) ne in
-                let p : D.bytes (other_part D side r) ≡ D.bytes o = ap D.bytes (sym (other-is P n S.ready.is_in_form r joined-row prefixes B at-end) ∙ sym eo) in
+                let p : D.bytes (other_part D side r) ≡ D.bytes o = ap D.bytes (sym (other-is P n S.ready.is_in_form r joined-row prefixes B side) ∙ sym eo) in
                 let q = left_of_lem side (take at bytes) J.rest (D.bytes (other_part D side r)) J.split in
                 let z : length (D.bytes (other_part D side r)) ≡ len = ap length p ∙ sym len_is in
                 let w : length (take at bytes) - length (D.bytes (other_part D side r)) ≡ at - len = rw (size, z) refl in
@@ -159,10 +156,10 @@ module _ (P : PairTables) (at-end : Bool) (n : ℕ) (bytes : List ℕ) (i : ℕ)
                 )
 
             -- never on the tables of a build
-            pub reach-short : at < len → CodeIs P at-end n bytes i codes code
+            pub reach-short : at < len → CodeIs P side n bytes i codes code
             reach-short h = record { row = S.row; built = λ prefixes B agree. absurd (omega (arith, (left prefixes B agree).0)) }
 
-            pub reach-join : len ≤ at → Reaching P at-end n bytes i codes r (at - len)
+            pub reach-join : len ≤ at → Reaching P side n bytes i codes r (at - len)
             reach-join h = record {
               ready = S.ready;
               row = joined-row;

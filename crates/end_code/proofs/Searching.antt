@@ -2,7 +2,7 @@
 use mathlib.Core.Path.{◌≡◌, refl, sym, subst, ◌∙◌}
 use mathlib.Core.Logic.{◌⊎◌, inl, inr, ⊎_elim}
 use mathlib.Core.List.{List}
-use mathlib.Core.Bool.{Bool, true, false}
+use mathlib.Core.Bool.{true, false}
 use Prim.Native.Nat.{ℕ, ◌≤◌, ◌<◌}
 use native.Mathlib.Decide.{ℕ_discrete}
 use native.Mathlib.Omega.{arith}
@@ -16,8 +16,11 @@ use Rattle.pair_check.specs.Pair.{PairReady, JoinReady, JoinIs}
 use Rattle.built_tables.specs.Built.{dictionary_of, Built}
 use Rattle.built_tables.proofs.Rows.{count_is, places_ready, lawful-is, tells, distinct-rows}
 use Rattle.built_tables.proofs.InForm.{ready}
-use Rattle.end_code.specs.Joins.{side_of, bound_of, part_of, BesideReady, BesideIs, FirstReady, FirstIs}
-use Rattle.end_code.proofs.Parts.{bound-is, inner-is, inner-lower, inner-long, inner-single}
+use Rattle.theory.specs.Typing.{Side, append, prepend}
+use Rattle.theory.specs.FirstJoin.{bound_at}
+use Rattle.end_code.specs.Sides.{inner_of}
+use Rattle.end_code.specs.Joins.{BesideReady, BesideIs, FirstReady, FirstIs}
+use Rattle.end_code.proofs.Parts.{inner-is, inner-lower, inner-long, inner-single}
 use Rattle.tables.specs.Tables.{PairTables, with_prefixes}
 
 module _ (P : PairTables) (n m x s : ℕ) where
@@ -57,7 +60,7 @@ module _ (P : PairTables) (n m u v r : ℕ) (J : JoinIs P n n m u v r)
   is-listed z = J.is z pair-ready D (tells (with_prefixes P prefixes) n B) (distinct-rows (with_prefixes P prefixes) n B) B.finds
 
 module _ (P : PairTables) (n m x s r : ℕ) where
-  pub beside-append : JoinIs P n n m x s r → BesideIs P true n m x s r
+  pub beside-append : JoinIs P n n m x s r → BesideIs P append n m x s r
   beside-append J = record {
     bound = J.bound;
     built = λ prefixes B hx hs. record {
@@ -67,7 +70,7 @@ module _ (P : PairTables) (n m x s r : ℕ) where
     };
   }
 
-  pub beside-prepend : JoinIs P n n m s x r → BesideIs P false n m x s r
+  pub beside-prepend : JoinIs P n n m s x r → BesideIs P prepend n m x s r
   beside-prepend J = record {
     bound = J.bound;
     built = λ prefixes B hx hs. record {
@@ -78,17 +81,17 @@ module _ (P : PairTables) (n m x s r : ℕ) where
   }
 
 -- the search has come to row x, with best as the lowest row found
-pub record Searching (P : PairTables) (at-end : Bool) (n u s x bound best : ℕ) : Type 0 where
+pub record Searching (P : PairTables) (side : Side) (n u s x bound best : ℕ) : Type 0 where
   pub ready : FirstReady P n u s
   pub row : x < n
   pub most : bound ≤ n
   pub best_row : (best ≡ none) ⊎ (best < n)
-  pub built : (prefixes : List ℕ) (B : Built (with_prefixes P prefixes) n) → Spine.Searching (dictionary_of P.file) (lawful-is (with_prefixes P prefixes) n B) (side_of at-end) u s x bound best
+  pub built : (prefixes : List ℕ) (B : Built (with_prefixes P prefixes) n) → Spine.Searching (dictionary_of P.file) (lawful-is (with_prefixes P prefixes) n B) side u s x bound best
 
-module _ (P : PairTables) (at-end : Bool) (n u s : ℕ) where
+module _ (P : PairTables) (side : Side) (n u s : ℕ) where
   open P use {file, lefts, rights}
 
-  pub search_start : FirstReady P n u s → Searching P at-end n u s u n none
+  pub search_start : FirstReady P n u s → Searching P side n u s u n none
   search_start R = record {
     ready = R;
     row = R.row;
@@ -97,10 +100,10 @@ module _ (P : PairTables) (at-end : Bool) (n u s : ℕ) where
     built = λ prefixes B.
         let e = count_is (with_prefixes P prefixes) n B in
         let L = lawful-is (with_prefixes P prefixes) n B in
-        subst (λ (m : ℕ). Spine.Searching (dictionary_of file) L (side_of at-end) u s u m none) e (Spine.search_start (dictionary_of file) L (side_of at-end) u s (omega (arith, R.row)));
+        subst (λ (m : ℕ). Spine.Searching (dictionary_of file) L side u s u m none) e (Spine.search_start (dictionary_of file) L side u s (omega (arith, R.row)));
   }
 
-  module _ (x bound best v : ℕ) (S : Searching P at-end n u s x bound best) where
+  module _ (x bound best v : ℕ) (S : Searching P side n u s x bound best) where
     pub search_ready : BesideReady P n bound x s
     search_ready = record {
       placed = S.ready.is_in_form.places_ready.placed;
@@ -112,7 +115,7 @@ module _ (P : PairTables) (at-end : Bool) (n u s : ℕ) where
       typed = S.ready.typed;
     }
 
-    module _ (F : BesideIs P at-end n bound x s v) where
+    module _ (F : BesideIs P side n bound x s v) where
       found : (best' : ℕ) → best' ≡ or_else v best → (best' ≡ none) ⊎ (best' < n)
       found best' e = go (ℕ_discrete v none)
         where
@@ -120,11 +123,11 @@ module _ (P : PairTables) (at-end : Bool) (n u s : ℕ) where
           go (yes z) = rw (e, or-none v best z) S.best_row
           go (no z) = rw (e, or_some v best z) (inr (⊎_elim (λ y. absurd (z y)) (λ h. let b = S.most in omega arith) F.bound))
 
-      pub search_next : (best' part bound' : ℕ) → best' ≡ or_else v best → part ≡ part_of lefts rights at-end x → (part ≡ x → ⊥) → bound' ≡ bound_of at-end x
-          → (part < x) × Searching P at-end n u s part bound' best'
+      pub search_next : (best' part bound' : ℕ) → best' ≡ or_else v best → part ≡ inner_of lefts rights side x → (part ≡ x → ⊥) → bound' ≡ bound_at side x
+          → (part < x) × Searching P side n u s part bound' best'
       search_next best' part bound' eb ep d eo =
-          let low : part < x = rw ep (inner-lower P n S.ready.is_in_form x S.row at-end (rw (← ep) d)) in
-          let top : bound' ≤ n = rw eo (top_of at-end) in (
+          let low : part < x = rw ep (inner-lower P n S.ready.is_in_form x S.row side (rw (← ep) d)) in
+          let top : bound' ≤ n = rw eo (top_of side) in (
             low,
             record {
               ready = S.ready;
@@ -133,21 +136,21 @@ module _ (P : PairTables) (at-end : Bool) (n u s : ℕ) where
               best_row = found best' eb;
               built = λ prefixes B.
                   let L = lawful-is (with_prefixes P prefixes) n B in
-                  rw (eb, ep, eo, bound-is at-end x, inner-is P n S.ready.is_in_form x S.row prefixes B at-end)
-                  (Spine.search_next (dictionary_of file) L (side_of at-end) u s x bound best v (S.built prefixes B) (F.built prefixes B S.row S.ready.typed)
-                  (inner-long P n S.ready.is_in_form x S.row prefixes B at-end (rw (← ep) d)));
+                  rw (eb, ep, eo, inner-is P n S.ready.is_in_form x S.row prefixes B side)
+                  (Spine.search_next (dictionary_of file) L side u s x bound best v (S.built prefixes B) (F.built prefixes B S.row S.ready.typed)
+                  (inner-long P n S.ready.is_in_form x S.row prefixes B side (rw (← ep) d)));
             },
           )
         where
-          top_of : (b : Bool) → bound_of b x ≤ n
-          top_of true = let h = S.row in omega arith
-          top_of false = let h = S.row in omega arith
+          top_of : (b : Side) → bound_at b x ≤ n
+          top_of append = let h = S.row in omega arith
+          top_of prepend = let h = S.row in omega arith
 
-      pub search_end : (best' part : ℕ) → best' ≡ or_else v best → part ≡ part_of lefts rights at-end x → part ≡ x → FirstIs P at-end n u s best'
+      pub search_end : (best' part : ℕ) → best' ≡ or_else v best → part ≡ inner_of lefts rights side x → part ≡ x → FirstIs P side n u s best'
       search_end best' part eb ep d = record {
         bound = found best' eb;
         built = λ prefixes B.
             rw eb
-            (Spine.search_end (dictionary_of file) (lawful-is (with_prefixes P prefixes) n B) (side_of at-end) u s x bound best v (S.built prefixes B) (F.built prefixes B S.row S.ready.typed)
-            (inner-single P n S.ready.is_in_form x S.row prefixes B at-end (sym ep ∙ d)));
+            (Spine.search_end (dictionary_of file) (lawful-is (with_prefixes P prefixes) n B) side u s x bound best v (S.built prefixes B) (F.built prefixes B S.row S.ready.typed)
+            (inner-single P n S.ready.is_in_form x S.row prefixes B side (sym ep ∙ d)));
       }

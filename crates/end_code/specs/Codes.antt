@@ -1,12 +1,11 @@
 -- The end code of typed bytes, over tables: what may be read, and what is answered.
-use Rattle.std.specs.Prelude.{◌≡◌, List, Bool, ℕ, ◌≤◌, ◌<◌, length, get_or}
+use Rattle.std.specs.Prelude.{◌≡◌, List, ℕ, ◌≤◌, ◌<◌, length, get_or}
 use Rattle.marks.specs.Layout.{area_size}
-use Rattle.theory.specs.Typing.{code_at}
+use Rattle.theory.specs.Typing.{Side, code_at}
 use Rattle.tables.specs.Tables.{tables, PairTables, with_prefixes}
 use Rattle.tables.specs.Ready.{PlacesReady}
 use Rattle.built_tables.specs.Built.{dictionary_of, Built}
 use Rattle.end_code.specs.Tables.{PartsInForm, FrontRows}
-use Rattle.end_code.specs.Joins.{side_of}
 
 -- what the row of a byte needs: the rows, and the byte
 pub record ByteReady (file places area : List ℕ) (n : ℕ) (bytes : List ℕ) (i : ℕ) : Type 0 where
@@ -21,9 +20,9 @@ pub record ByteIs (file places area : List ℕ) (n : ℕ) (bytes : List ℕ) (i 
       → r ≡ (dictionary_of file).code (get_or bytes i 0)
 
 -- the first i entries are the end codes of the shorter ones
-abbrev pub CodesTo : List ℕ → Bool → List ℕ → List ℕ → ℕ → Type 0
-CodesTo file at-end bytes codes i = (j : ℕ) → j < i
-    → get_or codes j 0 ≡ code_at (dictionary_of file) (side_of at-end) bytes j
+abbrev pub CodesTo : List ℕ → Side → List ℕ → List ℕ → ℕ → Type 0
+CodesTo file side bytes codes i = (j : ℕ) → j < i
+    → get_or codes j 0 ≡ code_at (dictionary_of file) side bytes j
 
 -- what the end code of the first i + 1 typed bytes needs: those bytes, and a row for each shorter one
 pub record CodeReady (P : PairTables) (n : ℕ) (bytes : List ℕ) (i : ℕ) (codes : List ℕ) : Type 0 where
@@ -31,9 +30,9 @@ pub record CodeReady (P : PairTables) (n : ℕ) (bytes : List ℕ) (i : ℕ) (co
   pub inside : i < length bytes
   pub before : FrontRows n codes i
 
--- a row; behind true end codes the end code of the first i + 1 typed bytes
-pub record CodeIs (P : PairTables) (at-end : Bool) (n : ℕ) (bytes : List ℕ) (i : ℕ) (codes : List ℕ)
+-- a row; behind true end codes it is the end code of the first i + 1 typed bytes
+pub record CodeIs (P : PairTables) (side : Side) (n : ℕ) (bytes : List ℕ) (i : ℕ) (codes : List ℕ)
     (r : ℕ) : Type 0 where
   pub row : r < n
-  pub built : (prefixes : List ℕ) → Built (with_prefixes P prefixes) n → CodesTo P.file at-end bytes codes i
-      → r ≡ code_at (dictionary_of P.file) (side_of at-end) bytes i
+  pub built : (prefixes : List ℕ) → Built (with_prefixes P prefixes) n → CodesTo P.file side bytes codes i
+      → r ≡ code_at (dictionary_of P.file) side bytes i

@@ -1,28 +1,14 @@
 -- The first join of a row with the code beside which it is typed, over tables: what may be read, and what is
 -- answered.
-use Rattle.std.specs.Prelude.{◌≡◌, ◌⊎◌, List, Bool, true, false, ℕ, ◌+◌, ◌≤◌, ◌<◌, length, get_or}
+use Rattle.std.specs.Prelude.{◌≡◌, ◌⊎◌, List, ℕ, ◌≤◌, ◌<◌, length}
 use Rattle.marks.specs.Layout.{area_size}
 use Rattle.theory.specs.Dictionary.{none}
 use Rattle.placed_rows.specs.Rows.{Placed}
-use Rattle.theory.specs.Typing.{Side, append, prepend}
+use Rattle.theory.specs.Typing.{Side}
 use Rattle.theory.specs.FirstJoin.{JoinBelow, FirstJoin}
 use Rattle.built_tables.specs.Built.{dictionary_of, Built}
 use Rattle.end_code.specs.Tables.{PartsInForm}
 use Rattle.tables.specs.Tables.{PairTables, with_prefixes}
-
--- whether rows are typed at the end of the text, or at its front
-abbrev pub side_of : Bool → Side
-side_of true = append
-side_of false = prepend
-
-abbrev pub bound_of : Bool → ℕ → ℕ
-bound_of true x = x
-bound_of false x = x + 1
-
--- the last part of row x, or its first
-abbrev pub part_of : List ℕ → List ℕ → Bool → ℕ → ℕ
-part_of lefts rights true x = get_or rights x 0
-part_of lefts rights false x = get_or lefts x 0
 
 -- the parts of row x may be read
 pub record PartReady (lefts rights : List ℕ) (x : ℕ) : Type 0 where
@@ -40,10 +26,10 @@ pub record BesideReady (P : PairTables) (n m x s : ℕ) : Type 0 where
   pub typed : s < n
 
 -- the row below m that has x and, typed beside it, s as its parts
-pub record BesideIs (P : PairTables) (at-end : Bool) (n m x s r : ℕ) : Type 0 where
+pub record BesideIs (P : PairTables) (side : Side) (n m x s r : ℕ) : Type 0 where
   pub bound : (r ≡ none) ⊎ (r < m)
   pub built : (prefixes : List ℕ) → Built (with_prefixes P prefixes) n → x < n → s < n
-      → JoinBelow (dictionary_of P.file) (side_of at-end) m x s r
+      → JoinBelow (dictionary_of P.file) side m x s r
 
 -- what the first join needs: tables in form, and two rows
 pub record FirstReady (P : PairTables) (n u s : ℕ) : Type 0 where
@@ -52,7 +38,7 @@ pub record FirstReady (P : PairTables) (n u s : ℕ) : Type 0 where
   pub typed : s < n
 
 -- the lowest row that joins s and what u has at that end by then
-pub record FirstIs (P : PairTables) (at-end : Bool) (n u s r : ℕ) : Type 0 where
+pub record FirstIs (P : PairTables) (side : Side) (n u s r : ℕ) : Type 0 where
   pub bound : (r ≡ none) ⊎ (r < n)
   pub built : (prefixes : List ℕ) → Built (with_prefixes P prefixes) n
-      → FirstJoin (dictionary_of P.file) (side_of at-end) u s r
+      → FirstJoin (dictionary_of P.file) side u s r

@@ -1,3 +1,4 @@
 pub mod Tables
+pub mod Sides
 pub mod Joins
 pub mod Codes

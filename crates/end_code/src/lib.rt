@@ -1,14 +1,15 @@
 // The end code of a text with one byte more, where those of the shorter texts are known: the last code where bytes are
 // typed at its end, the first code where they are typed at its front. From the byte's own row on, rows are joined as
-// the merge procedure joins them; no text is searched for rows. `FirstJoin` of `theory` is the definition. The side is
-// a bool here and an enum in `typing_columns`: one enum for both would move proofs of both for no promise.
+// the merge procedure joins them; no text is searched for rows. `FirstJoin` of `theory` is the definition.
 #![tactic(auto)]
 
 ghost use Rattle.std.specs.Prelude.{◌≡◌, ◌-◌, ◌<◌, length};
+ghost use Rattle.theory.specs.FirstJoin.{bound_at};
 ghost use Rattle.theory.proofs.Spine.{or_else};
 ghost use Rattle.built_tables.specs.Built.{dictionary_of};
 ghost use Rattle.end_code.specs.Tables.{RowReady};
-ghost use Rattle.end_code.specs.Joins.{bound_of, part_of, PartReady, BesideReady, BesideIs, FirstReady, FirstIs};
+ghost use Rattle.end_code.specs.Sides.{side_of, inner_of, other_of};
+ghost use Rattle.end_code.specs.Joins.{PartReady, BesideReady, BesideIs, FirstReady, FirstIs};
 ghost use Rattle.end_code.specs.Codes.{ByteReady, ByteIs, CodeReady, CodeIs};
 ghost use Rattle.tables.specs.Tables.{pair_given, pair_lent, before};
 
@@ -21,23 +22,46 @@ fn or_else(v: u32, other: u32) -> u32
     if v == NONE { other } else { v }
 }
 
-// The rows in whose passes the part of row x stands at the end are those below this one.
-fn bound_at(x: u32, append: bool) -> u32
-    requires { x < 4096 }
-    ensures { result ≡ bound_of append x }
-{
-    if append { x } else { x + 1 }
+// The side of a text at which bytes are typed: its end, or its front.
+#[derive(Clone, Copy)]
+pub enum Side {
+    Append,
+    Prepend,
 }
 
-// The last part of row x, or its first.
-fn part_of(lefts: &[u32], rights: &[u32], x: u32, last: bool) -> u32
-    requires { PartReady lefts.now rights.now x }
-    ensures { result ≡ part_of lefts.now rights.now last x }
-{
-    if last {
-        return rights[x as usize];
+impl Side {
+    // The rows in whose passes the part of row x stands at this side are those below this one.
+    fn bound_at(self, x: u32) -> u32
+        requires { x < 4096 }
+        ensures { result ≡ bound_at (side_of self) x }
+    {
+        match self {
+            Side::Append => x,
+            Side::Prepend => x + 1,
+        }
     }
-    lefts[x as usize]
+
+    // The part of row x at this side of it: its last, or its first.
+    fn inner_part(self, lefts: &[u32], rights: &[u32], x: u32) -> u32
+        requires { PartReady lefts.now rights.now x }
+        ensures { result ≡ inner_of lefts.now rights.now (side_of self) x }
+    {
+        match self {
+            Side::Append => rights[x as usize],
+            Side::Prepend => lefts[x as usize],
+        }
+    }
+
+    // The part at its other side.
+    fn other_part(self, lefts: &[u32], rights: &[u32], x: u32) -> u32
+        requires { PartReady lefts.now rights.now x }
+        ensures { result ≡ other_of lefts.now rights.now (side_of self) x }
+    {
+        match self {
+            Side::Append => lefts[x as usize],
+            Side::Prepend => rights[x as usize],
+        }
+    }
 }
 
 // The row below bound that has x and, typed beside it, `typed` as its parts, or NONE.
@@ -51,18 +75,20 @@ fn join_beside(
     bound: u32,
     x: u32,
     typed: u32,
-    append: bool,
+    side: Side,
 ) -> u32
     requires { BesideReady (pair_given file places lefts rights area) n bound x typed }
-    ensures { BesideIs (pair_lent file places lefts rights area) append n bound x typed result }
+    ensures { BesideIs (pair_lent file places lefts rights area) (side_of side) n bound x typed result }
 {
     let limit = n as u32;
-    if append {
-        return pair_check::join_before(
+    match side {
+        Side::Append => pair_check::join_before(
             file, places, lefts, rights, area, n, limit, bound, x, typed,
-        );
+        ),
+        Side::Prepend => pair_check::join_before(
+            file, places, lefts, rights, area, n, limit, bound, typed, x,
+        ),
     }
-    pair_check::join_before(file, places, lefts, rights, area, n, limit, bound, typed, x)
 }
 
 // The lowest row that joins `typed` and what `code` has at that end by then, or NONE.
@@ -75,24 +101,22 @@ fn first_join(
     n: usize,
     code: u32,
     typed: u32,
-    append: bool,
+    side: Side,
 ) -> u32
     requires { FirstReady (pair_given file places lefts rights area) n code typed }
-    ensures { FirstIs (pair_lent file places lefts rights area) append n code typed result }
+    ensures { FirstIs (pair_lent file places lefts rights area) (side_of side) n code typed result }
 {
     let mut x = code;
     let mut bound = n as u32;
     let mut best = NONE;
     loop {
-        let v = join_beside(
-            file, places, lefts, rights, area, n, bound, x, typed, append,
-        );
+        let v = join_beside(file, places, lefts, rights, area, n, bound, x, typed, side);
         best = or_else(v, best);
-        let part = part_of(lefts, rights, x, append);
+        let part = side.inner_part(lefts, rights, x);
         if part == x {
             return best;
         }
-        bound = bound_at(x, append);
+        bound = side.bound_at(x);
         x = part;
     }
 }
@@ -121,20 +145,20 @@ pub fn end_code_at(
     bytes: &[u8],
     i: usize,
     codes: &[u32],
-    append: bool,
+    side: Side,
 ) -> u32
     requires { CodeReady (pair_given file places lefts rights area) n bytes.now i codes.now }
-    ensures { CodeIs (pair_lent file places lefts rights area) append n bytes.now i codes.now result }
+    ensures { CodeIs (pair_lent file places lefts rights area) (side_of side) n bytes.now i codes.now result }
 {
     let mut code = byte_row(file, places, area, n, bytes, i);
     let mut at = i;
     while at > 0 {
         let before = codes[at - 1];
-        let joined = first_join(file, places, lefts, rights, area, n, before, code, append);
+        let joined = first_join(file, places, lefts, rights, area, n, before, code, side);
         if joined == NONE {
             return code;
         }
-        let other = part_of(lefts, rights, joined, !append);
+        let other = side.other_part(lefts, rights, joined);
         let len = placed_rows::length_of(file, places, n, wide(other));
         if at < len {
             // Never on the tables of a build: the part ends the bytes before.

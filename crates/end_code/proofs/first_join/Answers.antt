@@ -6,10 +6,7 @@ pub loop-x-init : goal.loop-x-init
 loop-x-init c = search_start _ _ _ _ _ c.requires
 
 pub returns-then-part-x : goal.returns-then-part-x
-returns-then-part-x c = search_end _ _ _ _ _ _ _ _ _ c.loop-x.invariant c.join_beside-v.ensures _ _ c.or_else-best.ensures c.part_of-part.ensures c.if-part-x.true
-
-pub loop-x-smaller : goal.loop-x-smaller
-loop-x-smaller c = (search_next _ _ _ _ _ _ _ _ _ c.loop-x.invariant c.join_beside-v.ensures _ _ _ c.or_else-best.ensures c.part_of-part.ensures c.if-part-x.false c.bound_at-bound.ensures).0
+returns-then-part-x c = search_end _ _ _ _ _ _ _ _ _ c.loop-x.invariant c.join_beside-v.ensures _ _ c.or_else-best.ensures c.inner_part-part.ensures c.if-part-x.true
 
 pub loop-x-preserved : goal.loop-x-preserved
-loop-x-preserved c = (search_next _ _ _ _ _ _ _ _ _ c.loop-x.invariant c.join_beside-v.ensures _ _ _ c.or_else-best.ensures c.part_of-part.ensures c.if-part-x.false c.bound_at-bound.ensures).1
+loop-x-preserved c = (search_next _ _ _ _ _ _ _ _ _ c.loop-x.invariant c.join_beside-v.ensures _ _ _ c.or_else-best.ensures c.inner_part-part.ensures c.if-part-x.false c.bound_at-bound.ensures).1

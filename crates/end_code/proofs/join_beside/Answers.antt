@@ -1,13 +1,9 @@
 -- The join of the two in the order of the side (proofs/Searching.antt). Assumes nothing.
-use native.Mathlib.Omega.{arith}
 use Rattle.end_code.proofs.Searching.{beside-append, beside-prepend}
 use Rattle.end_code.proofs.join_beside.Goals as goal
 
-pub overflow_cast-limit : goal.overflow_cast-limit
-overflow_cast-limit c = omega (arith, c.requires.placed.few)
+pub returns-in-Append : goal.returns-in-Append
+returns-in-Append c = rw c.in-Append.is (beside-append _ _ _ _ _ _ c.join_before.ensures)
 
-pub returns-then-append : goal.returns-then-append
-returns-then-append c = rw c.if-append.true (beside-append _ _ _ _ _ _ c.join_before.ensures)
-
-pub returns : goal.returns
-returns c = rw c.if-append.false (beside-prepend _ _ _ _ _ _ c.join_before-2.ensures)
+pub returns-in-Prepend : goal.returns-in-Prepend
+returns-in-Prepend c = rw c.in-Prepend.is (beside-prepend _ _ _ _ _ _ c.join_before-in-Prepend.ensures)

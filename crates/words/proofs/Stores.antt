@@ -6,7 +6,7 @@ use native.Mathlib.Decide.{dec_lt}
 use native.Mathlib.Numerals.{add-one}
 use native.Mathlib.Omega.{arith}
 use lib.ListN.{length, get_or, set, take, drop, length-append, length-set}
-use lib.Seq.{sets, length-sets, sets-eq, set_out, take-suc, take_all, take_at, length-take-le}
+use lib.Seq.{sets, length-sets, sets-eq, set_out, take-suc, take_at, length-take-le}
 use Rattle.words.specs.Parts.{behind, Put}
 
 -- bytes put beyond the end change nothing
@@ -43,17 +43,6 @@ pub put-length : (out : List ℕ) (at : ℕ) (bytes out' : List ℕ) (r : ℕ) �
     → length out' ≡ length out
 put-length out at bytes out' r p = ap length p.stored ∙ length-sets out at bytes
 
--- nothing put
-pub put-none : (out : List ℕ) (at : ℕ) → Put out at [] out at
-put-none out at = record { place = omega arith; stored = refl }
-
--- one byte put, where there is room and where there is none
-pub put_in : (out : List ℕ) (at byte : ℕ) → at < length out → Put out at (byte ∷ []) (set out at byte) (at + 1)
-put_in out at byte h = record { place = omega (arith, h); stored = refl }
-
-pub put_out : (out : List ℕ) (at byte : ℕ) → length out ≤ at → Put out at (byte ∷ []) out at
-put_out out at byte h = record { place = omega (arith, h); stored = sym (set_out out at byte h) }
-
 -- one part put after another one
 pub put_then : (out : List ℕ) (at : ℕ) (u out' : List ℕ) (m : ℕ) (v out'' : List ℕ) (r : ℕ)
     → Put out at u out' m → Put out' m v out'' r → Put out at (u ++ v) out'' r
@@ -71,11 +60,6 @@ pub put_next : (out : List ℕ) (at : ℕ) (bytes out' : List ℕ) (m i : ℕ) (
     → Put out at (take (i + 1) bytes) out'' r
 put_next out at bytes out' m i out'' r h p q =
     rw (add-one i, take-suc bytes i 0 h) (put_then out at (take i bytes) out' m (get_or bytes i 0 ∷ []) out'' r p q)
-
--- and its end
-pub put-end : (out : List ℕ) (at : ℕ) (bytes out' : List ℕ) (r i : ℕ) → length bytes ≤ i
-    → Put out at (take i bytes) out' r → Put out at bytes out' r
-put-end out at bytes out' r i h p = rw (← take_all i bytes h) p
 
 -- where there is room for all of them, they follow what stood before
 pub put-taken : (out : List ℕ) (at : ℕ) (bytes out' : List ℕ) (r : ℕ) → at + length bytes ≤ length out

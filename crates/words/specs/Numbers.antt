@@ -1,21 +1,19 @@
 -- The number that decimal digits write.
-use Rattle.std.specs.Prelude.{List, [], ◌∷◌, cond, ◌&&◌, ℕ, ◌+◌, ◌*◌, ◌-◌, leb}
-use Rattle.words.specs.declared.numbers.Parsed.{Parsed}
-use Rattle.words.specs.declared.numbers.Parsed.TheVariants.{Number, Nothing}
+use Rattle.std.specs.Prelude.{List, [], ◌∷◌, cond, ◌&&◌, ℕ, ◌+◌, ◌*◌, ◌-◌, leb, Option, Some, None}
 
 -- one digit more: nothing for another byte, and for a number of more than 64 bits
-unfoldable pub with_digit : ℕ → ℕ → Parsed
+abbrev pub with_digit : ℕ → ℕ → Option ℕ
 with_digit value byte =
     cond (leb 48 byte && (leb byte 57 && leb (value * 10 + (byte - 48)) 18446744073709551615))
-    (Number (value * 10 + (byte - 48))) Nothing
+    (Some (value * 10 + (byte - 48))) None
 
 -- the digits of a word, after those that wrote a number
-unfoldable pub digits_after : Parsed → List ℕ → Parsed
+abbrev pub digits_after : Option ℕ → List ℕ → Option ℕ
 digits_after p [] = p
-digits_after (Number value) (byte ∷ s) = digits_after (with_digit value byte) s
-digits_after Nothing (byte ∷ s) = Nothing
+digits_after (Some value) (byte ∷ s) = digits_after (with_digit value byte) s
+digits_after None (byte ∷ s) = None
 
 -- the number that a word writes; a word of no digits writes nothing
-unfoldable pub number_of : List ℕ → Parsed
-number_of [] = Nothing
-number_of (byte ∷ s) = digits_after (Number 0) (byte ∷ s)
+abbrev pub number_of : List ℕ → Option ℕ
+number_of [] = None
+number_of (byte ∷ s) = digits_after (Some 0) (byte ∷ s)

@@ -3,7 +3,7 @@ use Rattle.std.specs.Prelude.{◌≡◌, List, [], ◌∷◌, cond, ℕ, suc, �
 use Rattle.std.proofs.lemmas.List.Edits.{sets}
 
 -- the part from a place up to another one, or nothing where there is no such part
-unfoldable pub part_of : List ℕ → ℕ → ℕ → List ℕ
+abbrev pub part_of : List ℕ → ℕ → ℕ → List ℕ
 part_of s from to = cond (leb to (length s)) (take (to - from) (drop from s)) []
 
 -- how many bytes stand before the first one of this value; all of them if there is none

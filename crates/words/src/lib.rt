@@ -5,6 +5,6 @@ mod numbers;
 mod parts;
 mod saying;
 
-pub use numbers::{Parsed, number};
-pub use parts::{after, back, count_before, front, front_numbers, is, part, put, put_all, until};
+pub use numbers::number;
+pub use parts::{after, back, count_before, front, is, part, put, put_all, until};
 pub use saying::{say, say_field, say_number, wide};

@@ -6,54 +6,28 @@ ghost use Rattle.words.specs.Parts.{part_of, count_before, after_first, Put};
 pub fn part(s: &[u8], from: usize, to: usize) -> &[u8]
     ensures { result.now ≡ part_of s.now from to }
 {
-    if to < from {
-        return &s[0..0];
-    }
-    if s.len() < to {
-        return &s[0..0];
-    }
-    &s[from..to]
+    s.get(from..to).unwrap_or(&[])
 }
 
-// The first k bytes, or all if there are fewer.
-pub fn front(s: &[u8], k: usize) -> &[u8]
+// The first k entries, or all if there are fewer.
+pub fn front<T>(s: &[T], k: usize) -> &[T]
     ensures { result.now ≡ take k s.now }
 {
-    if s.len() < k {
-        return s;
-    }
-    &s[0..k]
+    s.get(..k).unwrap_or(s)
 }
 
 // What follows the first k bytes.
 pub fn back(s: &[u8], k: usize) -> &[u8]
     ensures { result.now ≡ drop k s.now }
 {
-    part(s, k, s.len())
-}
-
-// The first k numbers, or all if there are fewer.
-pub fn front_numbers(s: &[u32], k: usize) -> &[u32]
-    ensures { result.now ≡ take k s.now }
-{
-    if s.len() < k {
-        return s;
-    }
-    &s[0..k]
+    s.get(k..).unwrap_or(&[])
 }
 
 // How many bytes stand before the first one of this value; all of them if there is none.
 pub fn count_before(s: &[u8], byte: u8) -> usize
     ensures { result ≡ count_before byte s.now }
 {
-    let mut i = 0;
-    while i < s.len() {
-        if s[i] == byte {
-            return i;
-        }
-        i += 1;
-    }
-    i
+    s.iter().position(|x| *x == byte).unwrap_or(s.len())
 }
 
 // Those bytes, from a place on.
@@ -81,7 +55,7 @@ pub fn is(word: &[u8], name: &[u8]) -> bool
     ensures { (result ≡ true → word.now ≡ name.now)
         × (word.now ≡ name.now → result ≡ true) }
 {
-    check::same(word, name)
+    word == name
 }
 
 // Writes a byte at a place, if there is room, and gives the next place.
@@ -100,10 +74,8 @@ pub fn put_all(out: &mut [u8], at: usize, bytes: &[u8]) -> usize
     ensures { Put out.old at bytes.now out.new result }
 {
     let mut end = at;
-    let mut i = 0;
-    while i < bytes.len() {
-        end = put(out, end, bytes[i]);
-        i += 1;
+    for byte in bytes {
+        end = put(out, end, *byte);
     }
     end
 }

@@ -12,7 +12,7 @@ pub fn say(rt: &impl Print, text: &[u8]) -> io::Result<()> {
 pub fn wide(x: u32) -> u64
     ensures { result ≡ x }
 {
-    x as u64
+    u64::from(x)
 }
 
 // A number in decimal.
@@ -22,6 +22,5 @@ pub fn say_number(rt: &impl Print, n: u64) -> io::Result<()> {
 
 // A space and a number.
 pub fn say_field(rt: &impl Print, n: u64) -> io::Result<()> {
-    say(rt, b" ")?;
-    say_number(rt, n)
+    print!(rt; " {n}")
 }

@@ -1,16 +1,12 @@
--- The byte is found, it is not here, and the text ends. Assumes nothing.
-use Rattle.std.proofs.Common.{arith}
-use Rattle.words.proofs.Pieces.{count-found, count-on, count-all}
+-- The place of the first such byte. Assumes nothing.
+use Rattle.std.proofs.Common.{eqb, rules, tests}
+use Rattle.std.proofs.lemmas.Iterator.{YieldsList-from_slice}
+use Rattle.std.proofs.lemmas.Iterator.Search.{position_from_yields_List}
+use Rattle.words.proofs.Pieces.{count_before_is}
 use Rattle.words.proofs.parts.count_before.Goals as goal
 
-pub returns-then-s-i : goal.returns-then-s-i
-returns-then-s-i c = count-found _ _ _ _ c.loop-i-test.true c.loop-i.invariant.1 c.if-s-i.true
-
-pub loop-i-preserved : goal.loop-i-preserved
-loop-i-preserved c = (
-  omega arith,
-  count-on _ _ _ _ c.loop-i-test.true c.loop-i.invariant.1 c.if-s-i.false,
-)
-
 pub returns : goal.returns
-returns c = count-all _ _ _ _ (omega arith) c.loop-i.invariant.1
+returns c =
+    count_before_is _ _ _ _ (position_from_yields_List (λ x. eqb x c.args.byte) _ _ c.position.result c.position.ensures.ran
+    (YieldsList-from_slice c.args.s.now cc) (λ x b q k. search (rules, tests)))
+    c.unwrap_or.ensures

@@ -1,10 +1,7 @@
 -- A turn puts one byte more. Assumes nothing.
-use Rattle.std.proofs.Common.{arith}
 use Rattle.words.proofs.Stores.{put_next}
 use Rattle.words.proofs.parts.put_all.Goals as goal
 
-pub loop-i-preserved : goal.loop-i-preserved
-loop-i-preserved c = (
-  omega arith,
-  put_next _ _ _ _ _ _ _ _ c.loop-i-test.true c.loop-i.invariant.1 c.put-end.ensures,
-)
+pub loop-byte-preserved : goal.loop-byte-preserved
+loop-byte-preserved c =
+    put_next _ _ _ _ _ _ _ _ c.loop-byte-test.true c.loop-byte.invariant c.put-end.ensures

@@ -1,7 +1,7 @@
 -- Laws of the byte values that have a row. Assumes nothing.
 use mathlib.Core.Path.{◌≡◌, refl, sym, ap, ◌∙◌}
 use mathlib.Core.List.{List, [], ◌∷◌, map}
-use mathlib.Core.Bool.{Bool, true, false, ◌||◌, or-true, or-false}
+use mathlib.Core.Bool.{Bool, true, false, not, cond, ◌||◌, or-true, or-false}
 use mathlib.Core.Logic.{⊎_elim}
 use Prim.Native.Nat.{ℕ, zero, suc, ◌+◌, ◌-◌, ◌<◌, ◌≤◌}
 use native.Mathlib.Decide.{ℕ_discrete}
@@ -11,7 +11,10 @@ use native.Mathlib.Omega.{arith}
 use lib.ListN.{length, get_or, set, replicate, get_or-replicate, length-take, length-drop}
 use lib.Seq.{get_or-set_same, get_or-set_other, drop-cons}
 use lib.Dec.{eqb}
-use borrow.Author.Tests.{eq-eqb, ne_eqb, eqb-true}
+use borrow.Author.Tests.{eq-eqb, ne_eqb, eqb-true, ltb-true, ltb-false}
+use Rattle.std.specs.Prelude.{Some, None, nat_lt}
+use Rattle.std.specs.List.{position, position_or_len}
+use Rattle.std.proofs.lemmas.Option.{none-some}
 use Rattle.phrase_file.specs.Form.{row_bytes, places_from, places, rows}
 use Rattle.phrase_file.specs.Checks.{is_byte, has_byte, first_not}
 use Rattle.phrase_file.proofs.Places.{NoRow, Row}
@@ -126,3 +129,40 @@ first-same f g (suc k) b h = go (g b) refl (h b (omega arith)) (first-same f g k
     go : (t : Bool) → g b ≡ t → f b ≡ g b → first_not k f (suc b) ≡ first_not k g (suc b) → first_not (suc k) f b ≡ first_not (suc k) g b
     go true e s ih = holds f k b (s ∙ e) ∙ ih ∙ sym (holds g k b e)
     go false e s ih = fails f k b (s ∙ e) ∙ sym (fails g k b e)
+
+-- the lowest byte value that is not marked, as `position` finds it
+later : (f : ℕ → Bool) (k b : ℕ) → first_not k f (suc b) ≡ suc (first_not k (λ j. f (suc j)) b)
+unfolding first_not
+later f zero b = refl
+later f (suc k) b = go (f (suc b)) refl (later f k (suc b))
+  where
+    go : (t : Bool) → f (suc b) ≡ t → first_not k f (suc (suc b)) ≡ suc (first_not k (λ j. f (suc j)) (suc b)) → first_not (suc k) f (suc b) ≡ suc (first_not (suc k) (λ j. f (suc j)) b)
+    go true e ih = holds f k (suc b) e ∙ ih ∙ ap suc (sym (holds (λ j. f (suc j)) k b e))
+    go false e ih = fails f k (suc b) e ∙ ap suc (sym (fails (λ j. f (suc j)) k b e))
+
+unmarked : (seen : List Bool) → first_not (length seen) (λ (b : ℕ). get_or seen b false) 0 ≡ position_or_len not seen
+unfolding first_not
+unmarked [] = refl
+unmarked (true ∷ seen) = omega (arith, later (λ (b : ℕ). get_or (true ∷ seen) b false) (length seen) 0, unmarked seen)
+unmarked (false ∷ seen) = refl
+
+module _ (seen : List Bool) (l : length seen ≡ 256) where
+  abbrev lowest : ℕ
+  lowest = first_not 256 (λ (b : ℕ). get_or seen b false) 0
+
+  lowest_is : lowest ≡ position_or_len not seen
+  lowest_is = ap (λ (k : ℕ). first_not k (λ (b : ℕ). get_or seen b false) 0) (sym l) ∙ unmarked seen
+
+  pub missing_some : (b : ℕ) → Some b ≡ position not seen → (b ≡ lowest) × (b < 256)
+  missing_some b e = go (nat_lt (position_or_len not seen) (length seen)) refl e
+    where
+      go : (t : Bool) → nat_lt (position_or_len not seen) (length seen) ≡ t → Some b ≡ cond t (Some (position_or_len not seen)) None → (b ≡ lowest) × (b < 256)
+      go true q f = let same : b ≡ position_or_len not seen = cc in (same ∙ sym lowest_is, omega (arith, ltb-true _ _ q))
+      go false q f = absurd (none-some b (sym f))
+
+  pub missing_none : None ≡ position not seen → 256 ≤ lowest
+  missing_none e = go (nat_lt (position_or_len not seen) (length seen)) refl e
+    where
+      go : (t : Bool) → nat_lt (position_or_len not seen) (length seen) ≡ t → None ≡ cond t (Some (position_or_len not seen)) None → 256 ≤ lowest
+      go true q f = absurd (none-some (position_or_len not seen) f)
+      go false q f = omega (arith, lowest_is, ltb-false _ _ q)

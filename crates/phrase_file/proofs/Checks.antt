@@ -2,7 +2,7 @@
 use mathlib.Core.Path.{◌≡◌, refl, sym, ◌∙◌}
 use mathlib.Core.Option.{none, some}
 use mathlib.Core.List.{List, [], ◌∷◌}
-use mathlib.Core.Bool.{cond}
+use mathlib.Core.Bool.{Bool, cond}
 use Prim.Native.Nat.{ℕ, ◌<◌, ◌≤◌}
 use native.Mathlib.Omega.{arith}
 use lib.ListN.{length}
@@ -14,6 +14,7 @@ use Rattle.causes.specs.declared.BuildAnswer.TheVariants.{Rows, Refused}
 use Rattle.causes.specs.Call.{saying, to_rows}
 use Rattle.phrase_file.specs.Form.{places, rows, records_end}
 use Rattle.phrase_file.specs.Checks.{has_byte, missing_byte, check_of}
+use Rattle.phrase_file.specs.Post.{Scanned}
 use Rattle.phrase_file.proofs.Rows.{rows-count, end-inside}
 use Rattle.phrase_file.proofs.Bytes.{HasRow, has-row, first-none}
 
@@ -43,6 +44,15 @@ pub record Counted (file : List ℕ) (n : ℕ) : Type 0 where
   pub count : n ≡ length (rows file)
   pub least : 256 ≤ n
   pub most : n ≤ 4096
+
+pub counted : (file : List ℕ) (n end : ℕ) (seen : List Bool) → length file ≤ 65536 → Scanned file n end seen → length file ≤ end → 256 ≤ n → n ≤ 4096 → Counted file n
+counted file n end seen short s whole least most = record {
+  short = short;
+  whole = omega (arith, s.ends);
+  count = s.count;
+  least = least;
+  most = most;
+}
 
 module _ (file : List ℕ) (n : ℕ) (c : Counted file n) where
   -- then only the missing byte decides

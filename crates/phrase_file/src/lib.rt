@@ -2,19 +2,12 @@
 // looked at before the records, so that a file that is too long is told so whatever else is wrong with it.
 #![tactic(auto)]
 
-ghost use Rattle.std.specs.Prelude.{◌≡◌, ◌++◌, false, ℕ, length, get_or, drop};
+ghost use Rattle.std.specs.Prelude.{◌≡◌, ◌++◌, not, length, get_or, drop, position};
 ghost use Rattle.phrase_file.specs.Form.{row_length, row_bytes, places, rows};
-ghost use Rattle.phrase_file.specs.Checks.{first_not, check_of};
+ghost use Rattle.phrase_file.specs.Checks.{check_of};
 ghost use Rattle.phrase_file.specs.Post.{Scanned, PlacesFit};
 
 use causes::{BuildAnswer, Cause};
-
-// A byte as an index.
-fn wide(byte: u8) -> usize
-    ensures { result ≡ byte }
-{
-    byte as usize
-}
 
 // The length of the row in the record at an offset, 0 where no whole record stands.
 pub fn row_length(file: &[u8], at: usize) -> usize
@@ -33,7 +26,7 @@ pub fn row_length(file: &[u8], at: usize) -> usize
     if file[at + 1] != 0x51 {
         return 0;
     }
-    let length = wide(file[at + 2]);
+    let length = file[at + 2] as usize;
     if length < 1 {
         return 0;
     }
@@ -79,7 +72,7 @@ pub fn scan(file: &[u8]) -> FileScan
             return FileScan { n, end: at, seen };
         }
         if length == 1 {
-            let byte = wide(file[at + 3]);
+            let byte = file[at + 3] as usize;
             seen[byte] = true;
         }
         at = at + 3 + length;
@@ -132,18 +125,11 @@ pub fn fill_places(file: &[u8], table: &mut [u32])
     }
 }
 
-// The lowest byte value that was not seen, 256 if all were.
-fn lowest_missing(seen: [bool; 256]) -> usize
-    ensures { result ≡ first_not 256 (λ (b : ℕ). get_or seen b false) 0 }
+// The lowest byte value that was not seen, none if all were.
+fn lowest_missing(seen: &[bool; 256]) -> Option<usize>
+    ensures { result ≡ position not seen.now }
 {
-    let mut b: usize = 0;
-    while b < 256 {
-        if !seen[b] {
-            return b;
-        }
-        b += 1;
-    }
-    b
+    seen.iter().position(|seen| !*seen)
 }
 
 // The refusals 2, 3 and 4 of a file, else its count of rows.
@@ -165,10 +151,8 @@ pub fn check_file(file: &[u8]) -> BuildAnswer
     if 4096 < n {
         return BuildAnswer::Refused(Cause::RowCount(n));
     }
-    let seen = found.seen;
-    let missing = lowest_missing(seen);
-    if missing < 256 {
-        return BuildAnswer::Refused(Cause::MissingByte(missing as u8));
+    match lowest_missing(&found.seen) {
+        Some(missing) => BuildAnswer::Refused(Cause::MissingByte(missing as u8)),
+        None => BuildAnswer::Rows(n),
     }
-    BuildAnswer::Rows(n)
 }

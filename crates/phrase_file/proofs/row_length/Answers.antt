@@ -1,5 +1,4 @@
 -- What is read is a whole record, or a test of one fails: the laws of a record. Assumes nothing.
-use mathlib.Core.Path.{◌∙◌}
 use native.Mathlib.Omega.{arith}
 use borrow.Author.Rules.{rules}
 use Rattle.phrase_file.proofs.Records.{no_length, length-byte}
@@ -27,4 +26,4 @@ pub returns-then-left-length : goal.returns-then-left-length
 returns-then-left-length c = no_length _ _ (λ w. omega (arith, w.inside))
 
 pub returns : goal.returns
-returns c = c.wide-length.ensures ∙ length-byte _ _ (search rules)
+returns c = length-byte _ _ (search rules)

@@ -1,5 +1,5 @@
 -- Each turn passes one record: the laws of one pass. Assumes nothing.
-use mathlib.Core.Path.{sym, ◌∙◌}
+use mathlib.Core.Path.{refl, sym, ◌∙◌}
 use Prim.Native.Nat.{◌+◌}
 use native.Mathlib.Omega.{arith}
 use Rattle.phrase_file.proofs.Places.{Row, row-found, none_found}
@@ -24,15 +24,10 @@ bounds-file-at c =
     omega (arith, turn)
 
 pub bounds-seen-byte : goal.bounds-seen-byte
-bounds-seen-byte c = omega (arith, c.type_inv.file (c.loop-seen.at + 3), c.wide-byte.ensures)
+bounds-seen-byte c = omega (arith, c.type_inv.file (c.loop-seen.at + 3))
 
 pub overflow_add-at-in-loop-seen : goal.overflow_add-at-in-loop-seen
 overflow_add-at-in-loop-seen c =
-    let turn : Row c.args.file.now c.loop-seen.at c.row_length-length.result = row-found _ _ _ c.row_length-length.ensures c.if-length-eq0.false in
-    omega (arith, turn)
-
-pub overflow_add-at-in-loop-seen-2 : goal.overflow_add-at-in-loop-seen-2
-overflow_add-at-in-loop-seen-2 c =
     let turn : Row c.args.file.now c.loop-seen.at c.row_length-length.result = row-found _ _ _ c.row_length-length.ensures c.if-length-eq0.false in
     omega (arith, turn)
 
@@ -52,6 +47,6 @@ loop-seen-preserved c =
     let s = c.loop-seen.invariant in
     let r = turn in
     elim c.if-length-eq1.branch [
-      | then-length-eq1 w ↦ rw w.seen-is (scan_mark _ _ _ _ s _ r _ w.if-length-eq1.true w.wide-byte.ensures (omega (arith, c.type_inv.file (c.loop-seen.at + 3), w.wide-byte.ensures)))
+      | then-length-eq1 w ↦ rw w.seen-is (scan_mark _ _ _ _ s _ r _ w.if-length-eq1.true refl (omega (arith, c.type_inv.file (c.loop-seen.at + 3))))
       | else-length-eq1 w ↦ rw w.seen-is (scan_skip _ _ _ _ s _ r w.if-length-eq1.false)
     ]

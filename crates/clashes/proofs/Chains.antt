@@ -1,14 +1,13 @@
 -- Laws of the table of hashes in the scratch. A list of a bucket goes down by rows, so that a list over rows below k
 -- does not see what is stored for row k. Assumes nothing.
 use mathlib.Core.Path.{◌≡◌, refl, sym, ap, ◌∙◌}
-use mathlib.Core.List.{List, [], ◌∷◌, ◌++◌}
+use mathlib.Core.List.{List}
 use mathlib.Core.Bool.{Bool, true, false, ◌||◌}
 use Prim.Native.Nat.{ℕ, zero, suc, ◌+◌, ◌%◌, ◌≤◌, ◌<◌}
-use native.Mathlib.Numerals.{add-one}
 use native.Mathlib.Decide.{dec_lt}
 use native.Mathlib.Omega.{arith}
 use lib.ListN.{length, get_or, set, drop, replicate, length-set, length-append, length-replicate, length-drop, get_or-replicate, get_or-append}
-use lib.Seq.{get_or-set_same, get_or-set_other, drop-set-lt, drop-cons, set_at, drop-drop, drop-append-add, append_snoc}
+use lib.Seq.{get_or-set_same, get_or-set_other, drop-set-lt, drop-drop, drop-append-add}
 use lib.Dec.{eqb}
 use borrow.Author.Tests.{eq-eqb, ne_eqb}
 use Rattle.theory.specs.Dictionary.{none}
@@ -121,23 +120,7 @@ module _ (area : List ℕ) (c h : ℕ) (C : c < 4096) (A : 16384 ≤ length area
         let z : head (pushed area c h) g ≡ head area g = head-old (g % 4096) (omega arith) e in
         ap (listed (pushed area c h) test (suc c)) z ∙ (rw (ne_eqb (head area g) c f, listed) (keep (head area g)))
 
-replicate_more : (i a : ℕ) → replicate i a ++ a ∷ [] ≡ replicate (suc i) a
-replicate_more zero a = refl
-replicate_more (suc i) a = ap {B = List ℕ} (λ l. a ∷ l) (replicate_more i a)
-
 module _ (area : List ℕ) where
-  pub emptied-start : area ≡ emptied area 0
-  unfolding emptied
-  emptied-start = refl
-
-  pub emptied-more : (i : ℕ) → i < length area → set (emptied area i) i none ≡ emptied area (i + 1)
-  unfolding emptied
-  emptied-more i l =
-      rw (add-one, drop-cons area i 0)
-      (set_at (replicate i none) (get_or area i 0) (drop (suc i) area) none i (length-replicate i none)
-      ∙ sym (append_snoc (replicate i none) none (drop (suc i) area))
-      ∙ ap {B = List ℕ} (λ l. l ++ drop (suc i) area) (replicate_more i none))
-
   pub emptied-length : (i : ℕ) → i ≤ length area → length (emptied area i) ≡ length area
   unfolding emptied
   emptied-length i l = simp (length-append, length-replicate, length-drop) (omega arith)

@@ -1,4 +1,3 @@
-pub mod Bytes
 pub mod Lowest
 pub mod Laws
 pub mod Chains

@@ -3,7 +3,7 @@
 // rows are equal, the lowest row with the hash of an earlier one is the lowest that clashes.
 #![tactic(auto)]
 
-ghost use Rattle.std.specs.Prelude.{◌≡◌, ◌%◌, ◌<◌, ◌≤◌, length};
+ghost use Rattle.std.specs.Prelude.{◌≡◌, Bool, true, false, not, ◌||◌, ◌%◌, ◌<◌, ◌≤◌, length};
 ghost use Rattle.theory.specs.Lists.{equal};
 ghost use Rattle.placed_rows.specs.Rows.{row, Placed};
 ghost use Rattle.placed_rows.specs.Texts.{Small};
@@ -11,7 +11,7 @@ ghost use Rattle.clashes.specs.Clashes.{is_equal, shares_hash, Found};
 ghost use Rattle.clashes.specs.Buckets.{emptied, head, listed, pushed, is_sought, sought};
 
 use fnv::hash_bytes;
-use placed_rows::{NONE, begins_with, bytes_of, wide};
+use placed_rows::{NONE, bytes_of, wide};
 
 // How many buckets there are: the scratch begins with the head of each.
 const BUCKETS: usize = 4096;
@@ -33,58 +33,68 @@ fn empty(scratch: &mut [u32])
     requires { 16384 ≤ length scratch.old }
     ensures { scratch.new ≡ emptied scratch.old 4096 }
 {
-    let mut i = 0;
-    while i < BUCKETS {
-        scratch[i] = NONE;
-        i += 1;
+    scratch[..BUCKETS].fill(NONE);
+}
+
+// What is looked for of the rows that were stored with a hash.
+trait Sought {
+    // Whether their bytes have to be equal too.
+    ghost exact: { Bool };
+
+    // Do the bytes of such a row agree with those of the row with this hash?
+    fn agrees(stored: &[u8], bytes: &[u8]) -> bool
+        ensures { result ≡ (not exact || equal stored.now bytes.now) };
+}
+
+// A row with the hash, whatever its bytes.
+struct SharedHash;
+
+impl Sought for SharedHash {
+    ghost exact = { false };
+
+    fn agrees(_stored: &[u8], _bytes: &[u8]) -> bool {
+        true
     }
 }
 
-// Are these the same bytes?
-fn same_bytes(p: &[u8], t: &[u8]) -> bool
-    ensures { result ≡ equal p.now t.now }
-{
-    if p.len() != t.len() {
-        return false;
+// A row with the bytes.
+struct EqualBytes;
+
+impl Sought for EqualBytes {
+    ghost exact = { true };
+
+    fn agrees(stored: &[u8], bytes: &[u8]) -> bool {
+        stored == bytes
     }
-    begins_with(p, t)
 }
 
-// Was row c stored with this hash and, where `exact` says so, does it have these bytes?
-fn is_sought(
+// Was row c stored with this hash, and do its bytes agree with these?
+fn is_sought<S: Sought>(
     file: &[u8],
     places: &[u32],
     n: usize,
     scratch: &[u32],
     hash: u32,
     bytes: &[u8],
-    exact: bool,
     c: usize,
 ) -> bool
     requires placed { Placed file.now places.now n }
     requires in_bounds { 16384 ≤ length scratch.now }
     requires c_lt_n { c < n }
     ensures { result ≡ is_sought scratch.now (row file.now places.now n) hash
-        bytes.now exact c }
+        bytes.now S.exact c }
 {
-    if scratch[HASHES + c] != hash {
-        return false;
-    }
-    if !exact {
-        return true;
-    }
-    same_bytes(bytes_of(file, places, n, c), bytes)
+    scratch[HASHES + c] == hash && S::agrees(bytes_of(file, places, n, c), bytes)
 }
 
 // Is one of the first `rows` rows the one that is looked for? A link goes to a lower row, so the walk ends.
-fn has(
+fn has<S: Sought>(
     file: &[u8],
     places: &[u32],
     n: usize,
     scratch: &[u32],
     hash: u32,
     bytes: &[u8],
-    exact: bool,
     rows: usize,
 ) -> bool
     requires placed { Placed file.now places.now n }
@@ -92,12 +102,12 @@ fn has(
     requires rows_le_n { rows ≤ n }
     ensures { result ≡ listed scratch.now
         (is_sought scratch.now (row file.now places.now n) hash bytes.now
-        exact) rows (head scratch.now hash) }
+        S.exact) rows (head scratch.now hash) }
 {
     let mut below = rows;
     let mut at = wide(scratch[bucket(hash)]);
     while at < below {
-        if is_sought(file, places, n, scratch, hash, bytes, exact, at) {
+        if is_sought::<S>(file, places, n, scratch, hash, bytes, at) {
             return true;
         }
         below = at;
@@ -119,30 +129,27 @@ fn push(scratch: &mut [u32], row: usize, hash: u32)
     scratch[at] = row as u32;
 }
 
-// The lowest row with the hash or, where `exact` says so, the bytes of an earlier row, n where there is none.
-fn first_sought(
+// The lowest row that has of an earlier row what is looked for, n where there is none.
+fn first_sought<S: Sought>(
     file: &[u8],
     places: &[u32],
     n: usize,
     factor: u64,
-    exact: bool,
     scratch: &mut [u32],
 ) -> usize
     requires placed { Placed file.now places.now n }
     requires in_bounds { 16384 ≤ length scratch.old }
-    ensures { Found (sought (row file.now places.now n) factor exact) n
+    ensures { Found (sought (row file.now places.now n) factor S.exact) n
         scratch.old scratch.new result }
 {
     empty(scratch);
-    let mut row = 0;
-    while row < n {
+    for row in 0..n {
         let bytes = bytes_of(file, places, n, row);
         let hash = hash_bytes(bytes, factor);
-        if has(file, places, n, scratch, hash, bytes, exact, row) {
+        if has::<S>(file, places, n, scratch, hash, bytes, row) {
             return row;
         }
         push(scratch, row, hash);
-        row += 1;
     }
     n
 }
@@ -160,7 +167,7 @@ pub fn first_shared(
     ensures { Found (shares_hash (row file.now places.now n) factor) n
         scratch.old scratch.new result }
 {
-    first_sought(file, places, n, factor, false, scratch)
+    first_sought::<SharedHash>(file, places, n, factor, scratch)
 }
 
 // The lowest row with the bytes of an earlier row, n where there is none. The hashes only spare comparisons: factor 1
@@ -171,5 +178,5 @@ pub fn first_equal(file: &[u8], places: &[u32], n: usize, scratch: &mut [u32]) -
     ensures { Found (is_equal (row file.now places.now n)) n scratch.old
         scratch.new result }
 {
-    first_sought(file, places, n, 1, true, scratch)
+    first_sought::<EqualBytes>(file, places, n, 1, scratch)
 }

@@ -6,10 +6,10 @@ use Rattle.clashes.specs.Buckets.{head, listed, is_sought}
 use Rattle.clashes.proofs.has.Given as goal
 
 abbrev pub invariant-loop-at : goal.invariant-loop-at
-invariant-loop-at l =
+invariant-loop-at g l =
     (l.below ≤ l.rows)
-    × (listed l.scratch (is_sought l.scratch (row l.file l.places l.n) l.hash l.bytes l.exact) l.below l.at
-    ≡ listed l.scratch (is_sought l.scratch (row l.file l.places l.n) l.hash l.bytes l.exact) l.rows (head l.scratch l.hash))
+    × (listed l.scratch (is_sought l.scratch (row l.file l.places l.n) l.hash l.bytes g.S.Sought.exact) l.below l.at
+    ≡ listed l.scratch (is_sought l.scratch (row l.file l.places l.n) l.hash l.bytes g.S.Sought.exact) l.rows (head l.scratch l.hash))
 
 abbrev pub decreases-loop-at : goal.decreases-loop-at
-decreases-loop-at l = l.below
+decreases-loop-at g l = l.below

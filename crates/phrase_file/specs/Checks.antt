@@ -1,9 +1,9 @@
 -- The refusals 2, 3 and 4 of document 01, in this order.
-use Rattle.std.specs.Prelude.{List, [], ◌∷◌, Bool, true, false, ◌||◌, ℕ, zero, suc, length, ltb, eqb}
+use Rattle.std.specs.Prelude.{List, [], ◌∷◌, Bool, true, false, ◌||◌, ℕ, zero, suc, length, ltb, eqb, Result}
+use Rattle.causes.specs.declared.Cause.{Cause}
 use Rattle.causes.specs.declared.Cause.TheVariants.{BadRecord, RowCount, MissingByte}
-use Rattle.causes.specs.declared.BuildAnswer.{BuildAnswer}
 use Rattle.causes.specs.Order.{build_order, Condition, when, first_of}
-use Rattle.causes.specs.Call.{saying, to_rows}
+use Rattle.causes.specs.Call.{saying}
 use Rattle.phrase_file.specs.Form.{rows, records_end}
 
 -- whether a row is the one byte b
@@ -37,5 +37,5 @@ file_conditions file =
     ∷ []
 
 -- the answer of these checks: the first that applies, else the count of rows
-unfoldable pub check_of : List ℕ → BuildAnswer
-check_of file = saying to_rows (first_of build_order (file_conditions file)) (length (rows file))
+unfoldable pub check_of : List ℕ → Result ℕ Cause
+check_of file = saying (first_of build_order (file_conditions file)) (length (rows file))

@@ -7,7 +7,7 @@ ghost use Rattle.phrase_file.specs.Form.{row_length, row_bytes, places, rows};
 ghost use Rattle.phrase_file.specs.Checks.{check_of};
 ghost use Rattle.phrase_file.specs.Post.{Scanned, PlacesFit};
 
-use causes::{BuildAnswer, Cause};
+use causes::Cause;
 
 // The length of the row in the record at an offset, 0 where no whole record stands.
 pub fn row_length(file: &[u8], at: usize) -> usize
@@ -133,26 +133,26 @@ fn lowest_missing(seen: &[bool; 256]) -> Option<usize>
 }
 
 // The refusals 2, 3 and 4 of a file, else its count of rows.
-pub fn check_file(file: &[u8]) -> BuildAnswer
+pub fn check_file(file: &[u8]) -> Result<usize, Cause>
     ensures { result ≡ check_of file.now }
 {
     if 65536 < file.len() {
-        return BuildAnswer::Refused(Cause::BadRecord(65536));
+        return Err(Cause::BadRecord(65536));
     }
     let found = scan(file);
     let n = found.n;
     let end = found.end;
     if end < file.len() {
-        return BuildAnswer::Refused(Cause::BadRecord(end));
+        return Err(Cause::BadRecord(end));
     }
     if n < 256 {
-        return BuildAnswer::Refused(Cause::RowCount(n));
+        return Err(Cause::RowCount(n));
     }
     if 4096 < n {
-        return BuildAnswer::Refused(Cause::RowCount(n));
+        return Err(Cause::RowCount(n));
     }
     match lowest_missing(&found.seen) {
-        Some(missing) => BuildAnswer::Refused(Cause::MissingByte(missing as u8)),
-        None => BuildAnswer::Rows(n),
+        Some(missing) => Err(Cause::MissingByte(missing as u8)),
+        None => Ok(n),
     }
 }

@@ -1,12 +1,12 @@
 -- The last codes of the prefixes are written to the front of a table, one after the other. Assumes nothing.
 use mathlib.Core.Path.{◌≡◌, refl, sym, ap₂, ◌∙◌}
 use mathlib.Core.List.{List, ◌++◌}
-use mathlib.Core.Bool.{true}
 use Prim.Native.Nat.{ℕ, suc, ◌+◌, ◌≤◌, ◌<◌}
 use native.Mathlib.Numerals.{add-one}
 use native.Mathlib.Omega.{arith}
 use lib.ListN.{length, length-set, get_or, set, take, drop, take-append-drop}
 use lib.Seq.{length-take-le, get_or-take, drop-set-lt, drop-cons, ext_get_or}
+use Rattle.theory.specs.Typing.{append}
 use Rattle.theory.specs.Table.{last_code, last_codes}
 use Rattle.theory.proofs.Lists.{cons_tail}
 use Rattle.theory.proofs.Table.{length-last_codes, get_d_last_codes, code_at_last_code}
@@ -69,7 +69,7 @@ module _ (P : PairTables) (n : ℕ) (text table₀ : List ℕ) where
         before = record { room = omega (arith, room); rows = F.rows };
       }
 
-      module _ (r : ℕ) (C : CodeIs P true n text i table r) where
+      module _ (r : ℕ) (C : CodeIs P append n text i table r) where
         each : (Q : ℕ → ℕ → Type 0) → ((j : ℕ) → j < i → Q j (get_or table j 0)) → Q i r → (j : ℕ) → j < i + 1 → Q j (get_or (set table i r) j 0)
         each Q = at_set Q table i r (i + 1) (omega (arith, room)) (add-one i)
 

@@ -7,6 +7,8 @@ ghost use Rattle.table_encoder.specs.LastCodes.{PrefixesReady, PrefixesAre};
 ghost use Rattle.table_encoder.specs.Walk.{walked, WalkReady, WriteReady, TableReady, TableCodes};
 ghost use Rattle.tables.specs.Tables.{pair_given, pair_lent, before, after};
 
+use end_code::{Side, bytes_before, end_code_at};
+
 // The last code of each prefix of the text, at the front of the table.
 pub fn encode_all_prefixes(
     file: &[u8],
@@ -22,13 +24,20 @@ pub fn encode_all_prefixes(
     ensures { PrefixesAre (pair_lent file places lefts rights area) n text.now table.old
         table.new }
 {
-    let mut i = 0;
-    while i < text.len() {
-        let code = end_code::end_code_at(
-            file, places, lefts, rights, area, n, text, i, table, true,
+    for i in 0..text.len() {
+        let code = end_code_at(
+            file,
+            places,
+            lefts,
+            rights,
+            area,
+            n,
+            text,
+            i,
+            table,
+            Side::Append,
         );
         table[i] = code;
-        i += 1;
     }
 }
 
@@ -40,7 +49,7 @@ fn count_back(file: &[u8], places: &[u32], n: usize, table: &[u32], m: usize) ->
     let mut count = 0;
     let mut pos = m;
     while 0 < pos {
-        pos = end_code::bytes_before(file, places, n, pos, table[pos - 1]);
+        pos = bytes_before(file, places, n, pos, table[pos - 1]);
         count += 1;
     }
     count
@@ -66,7 +75,7 @@ fn write_back(
         let code = table[pos - 1];
         at -= 1;
         out[at] = code;
-        pos = end_code::bytes_before(file, places, n, pos, code);
+        pos = bytes_before(file, places, n, pos, code);
     }
 }
 

@@ -1,14 +1,8 @@
 -- The table holds the last codes, and the walk through it gives the codes. Assumes nothing.
 use native.Mathlib.Omega.{arith}
 use Rattle.built_tables.proofs.Rows.{octets}
-use Rattle.table_encoder.proofs.Codes.{prefixes_ready, walk-ready, write_ready, table_codes_lem}
+use Rattle.table_encoder.proofs.Codes.{write_ready, table_codes_lem}
 use Rattle.table_encoder.proofs.encode_via_table_core.Goals as goal
-
-pub encode_all_prefixes-requires : goal.encode_all_prefixes-requires
-encode_all_prefixes-requires c = prefixes_ready _ _ _ _ _ c.requires
-
-pub count_back-count-requires : goal.count_back-count-requires
-count_back-count-requires c = walk-ready _ _ _ _ _ c.requires _ c.encode_all_prefixes.ensures
 
 pub write_back-requires : goal.write_back-requires
 write_back-requires c = write_ready _ _ _ _ _ c.requires _ c.encode_all_prefixes.ensures _ c.count_back-count.ensures

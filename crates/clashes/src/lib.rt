@@ -5,13 +5,13 @@
 
 ghost use Rattle.std.specs.Prelude.{◌≡◌, Bool, true, false, not, ◌||◌, ◌%◌, ◌<◌, ◌≤◌, length};
 ghost use Rattle.theory.specs.Lists.{equal};
-ghost use Rattle.placed_rows.specs.Rows.{row, Placed};
+ghost use Rattle.placed_rows.specs.Reading.{rows_of};
 ghost use Rattle.placed_rows.specs.Texts.{Small};
 ghost use Rattle.clashes.specs.Clashes.{is_equal, shares_hash, Found};
 ghost use Rattle.clashes.specs.Buckets.{emptied, head, listed, pushed, is_sought, sought};
 
 use fnv::hash_bytes;
-use placed_rows::{NONE, bytes_of, wide};
+use placed_rows::{NONE, Rows, wide};
 
 // How many buckets there are: the scratch begins with the head of each.
 const BUCKETS: usize = 4096;
@@ -69,45 +69,27 @@ impl Sought for EqualBytes {
 }
 
 // Was row c stored with this hash, and do its bytes agree with these?
-fn is_sought<S: Sought>(
-    file: &[u8],
-    places: &[u32],
-    n: usize,
-    scratch: &[u32],
-    hash: u32,
-    bytes: &[u8],
-    c: usize,
-) -> bool
-    requires placed { Placed file.now places.now n }
+fn is_sought<S: Sought>(rows: &Rows<'_>, scratch: &[u32], hash: u32, bytes: &[u8], c: usize) -> bool
     requires in_bounds { 16384 ≤ length scratch.now }
-    requires c_lt_n { c < n }
-    ensures { result ≡ is_sought scratch.now (row file.now places.now n) hash
+    requires c_lt_n { c < rows.now.n }
+    ensures { result ≡ is_sought scratch.now (rows_of rows.now) hash
         bytes.now S.exact c }
 {
-    scratch[HASHES + c] == hash && S::agrees(bytes_of(file, places, n, c), bytes)
+    scratch[HASHES + c] == hash && S::agrees(rows.bytes_of(c), bytes)
 }
 
-// Is one of the first `rows` rows the one that is looked for? A link goes to a lower row, so the walk ends.
-fn has<S: Sought>(
-    file: &[u8],
-    places: &[u32],
-    n: usize,
-    scratch: &[u32],
-    hash: u32,
-    bytes: &[u8],
-    rows: usize,
-) -> bool
-    requires placed { Placed file.now places.now n }
+// Is one of the first `count` rows the one that is looked for? A link goes to a lower row, so the walk ends.
+fn has<S: Sought>(rows: &Rows<'_>, scratch: &[u32], hash: u32, bytes: &[u8], count: usize) -> bool
     requires in_bounds { 16384 ≤ length scratch.now }
-    requires rows_le_n { rows ≤ n }
+    requires count_le_n { count ≤ rows.now.n }
     ensures { result ≡ listed scratch.now
-        (is_sought scratch.now (row file.now places.now n) hash bytes.now
-        S.exact) rows (head scratch.now hash) }
+        (is_sought scratch.now (rows_of rows.now) hash bytes.now
+        S.exact) count (head scratch.now hash) }
 {
-    let mut below = rows;
+    let mut below = count;
     let mut at = wide(scratch[bucket(hash)]);
     while at < below {
-        if is_sought::<S>(file, places, n, scratch, hash, bytes, at) {
+        if is_sought::<S>(rows, scratch, hash, bytes, at) {
             return true;
         }
         below = at;
@@ -130,53 +112,38 @@ fn push(scratch: &mut [u32], row: usize, hash: u32)
 }
 
 // The lowest row that has of an earlier row what is looked for, n where there is none.
-fn first_sought<S: Sought>(
-    file: &[u8],
-    places: &[u32],
-    n: usize,
-    factor: u64,
-    scratch: &mut [u32],
-) -> usize
-    requires placed { Placed file.now places.now n }
-    requires in_bounds { 16384 ≤ length scratch.old }
-    ensures { Found (sought (row file.now places.now n) factor S.exact) n
+fn first_sought<S: Sought>(rows: &Rows<'_>, factor: u64, scratch: &mut [u32]) -> usize
+    requires { 16384 ≤ length scratch.old }
+    ensures { Found (sought (rows_of rows.now) factor S.exact) rows.now.n
         scratch.old scratch.new result }
 {
     empty(scratch);
-    for row in 0..n {
-        let bytes = bytes_of(file, places, n, row);
+    for row in 0..rows.n {
+        let bytes = rows.bytes_of(row);
         let hash = hash_bytes(bytes, factor);
-        if has::<S>(file, places, n, scratch, hash, bytes, row) {
+        if has::<S>(rows, scratch, hash, bytes, row) {
             return row;
         }
         push(scratch, row, hash);
     }
-    n
+    rows.n
 }
 
 // The lowest row with the hash of an earlier row, whatever their bytes, n where there is none.
-pub fn first_shared(
-    file: &[u8],
-    places: &[u32],
-    n: usize,
-    factor: u64,
-    scratch: &mut [u32],
-) -> usize
-    requires placed { Placed file.now places.now n }
-    requires in_bounds { 16384 ≤ length scratch.old }
-    ensures { Found (shares_hash (row file.now places.now n) factor) n
+pub fn first_shared(rows: &Rows<'_>, factor: u64, scratch: &mut [u32]) -> usize
+    requires { 16384 ≤ length scratch.old }
+    ensures { Found (shares_hash (rows_of rows.now) factor) rows.now.n
         scratch.old scratch.new result }
 {
-    first_sought::<SharedHash>(file, places, n, factor, scratch)
+    first_sought::<SharedHash>(rows, factor, scratch)
 }
 
 // The lowest row with the bytes of an earlier row, n where there is none. The hashes only spare comparisons: factor 1
 // serves, whatever factor a build has, and under it rows of different bytes seldom have one hash.
-pub fn first_equal(file: &[u8], places: &[u32], n: usize, scratch: &mut [u32]) -> usize
-    requires placed { Placed file.now places.now n }
-    requires in_bounds { 16384 ≤ length scratch.old }
-    ensures { Found (is_equal (row file.now places.now n)) n scratch.old
+pub fn first_equal(rows: &Rows<'_>, scratch: &mut [u32]) -> usize
+    requires { 16384 ≤ length scratch.old }
+    ensures { Found (is_equal (rows_of rows.now)) rows.now.n scratch.old
         scratch.new result }
 {
-    first_sought::<EqualBytes>(file, places, n, 1, scratch)
+    first_sought::<EqualBytes>(rows, 1, scratch)
 }

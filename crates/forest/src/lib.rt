@@ -6,7 +6,7 @@
 ghost use Rattle.std.specs.Prelude.{◌≡◌, true, ◌+◌, ◌-◌, ◌%◌, ◌<◌, ◌≤◌, ◌⊎◌, length, get_or, drop};
 ghost use Rattle.marks.specs.Layout.{row_marks, hints};
 ghost use Rattle.theory.specs.Dictionary.{none};
-ghost use Rattle.placed_rows.specs.Rows.{row, Placed};
+ghost use Rattle.placed_rows.specs.Reading.{rows_of};
 ghost use Rattle.placed_rows.specs.Texts.{Small};
 ghost use Rattle.marks.specs.Marks.{marked};
 ghost use Rattle.forest.specs.Words.{word, tag_at, row_of, more_of, bucket_of, child_key, marks_from};
@@ -14,7 +14,7 @@ ghost use Rattle.forest.specs.Lookups.{Fits, OneLonger, ChildIs, ByteRow, Descen
 ghost use Rattle.forest.specs.Growth.{cleared, place_of, pushed, Inserted};
 
 use marks::{LINKS, ROW_MARKS};
-use placed_rows::{Match, NONE};
+use placed_rows::{Match, NONE, Rows};
 
 fn no_match() -> Match
     ensures { result.row ≡ 4294967295 }
@@ -88,19 +88,9 @@ fn may_have_child(area: &[u32], p: u32, b: u8) -> bool
 
 // Is w the word of a row whose prefix is p, of len bytes, and that goes on as the text from at on does? The bucket is
 // that of p and the byte there, so that a word with this byte has p as its prefix.
-fn fits(
-    file: &[u8],
-    places: &[u32],
-    n: usize,
-    w: u32,
-    p: u32,
-    len: usize,
-    text: &[u8],
-    at: usize,
-) -> bool
-    requires placed { Placed file.now places.now n }
-    requires w_bound { (w % 8192 < n) × (at < length text.now) }
-    ensures { Fits (row file.now places.now n) n p len (drop at text.now) w
+fn fits(rows: &Rows<'_>, w: u32, p: u32, len: usize, text: &[u8], at: usize) -> bool
+    requires w_bound { (w % 8192 < rows.now.n) × (at < length text.now) }
+    ensures { Fits (rows_of rows.now) rows.now.n p len (drop at text.now) w
         result }
 {
     if w / 8192 % 256 != text[at] as u32 {
@@ -116,7 +106,7 @@ fn fits(
     if w / 2097152 % 32 != text[at + 1] as u32 % 32 {
         return false;
     }
-    let bytes = placed_rows::bytes_of(file, places, n, row_of(w));
+    let bytes = rows.bytes_of(row_of(w));
     if bytes.len() < len {
         return false;
     }
@@ -136,65 +126,55 @@ fn is_one_longer(w: u32, b: u8) -> bool
 // The child of p, of len bytes, that goes on as the text from at on does, among the rows of its bucket, whose first
 // word is given, or NONE.
 fn listed_child(
-    file: &[u8],
-    places: &[u32],
+    rows: &Rows<'_>,
     area: &[u32],
-    n: usize,
     first: u32,
     p: u32,
     len: usize,
     text: &[u8],
     at: usize,
 ) -> Match
-    requires placed { Placed file.now places.now n }
     requires hints_in_bounds { (hints ≤ length area.now) × ((at < length text.now) ×
         (first ≡ get_or area.now (bucket_of p (get_or text.now at 0)) 0)) }
     requires at_bound { (get_or text.now at 0 < 256) × (len + (length text.now - at) < 18446744073709551616) }
-    ensures { ChildIs (row file.now places.now n) n area.now p len
+    ensures { ChildIs (rows_of rows.now) rows.now.n area.now p len
         (drop at text.now) result.row result.len }
 {
     let mut w = first;
-    let mut left = n;
-    loop {
+    for _step in 0..rows.n {
         let i = row_of(w);
-        if n <= i {
+        if rows.n <= i {
             return no_match();
         }
-        if fits(file, places, n, w, p, len, text, at) {
+        if fits(rows, w, p, len, text, at) {
             return Match {
                 row: w % 8192,
                 len: len + more_of(w),
             };
         }
-        left -= 1;
-        if left == 0 {
-            return no_match();
-        }
         w = area[LINKS + i];
     }
+    no_match()
 }
 
 // The same child. A row that is one byte longer, and first in its bucket, is told by its word alone.
 fn bucket_child(
-    file: &[u8],
-    places: &[u32],
+    rows: &Rows<'_>,
     area: &[u32],
-    n: usize,
     first: u32,
     p: u32,
     len: usize,
     text: &[u8],
     at: usize,
 ) -> Match
-    requires placed { Placed file.now places.now n }
     requires hints_in_bounds { (hints ≤ length area.now) × ((at < length text.now) ×
         (first ≡ get_or area.now (bucket_of p (get_or text.now at 0)) 0)) }
     requires at_bound { len + (length text.now - at) < 18446744073709551616 }
-    ensures { ChildIs (row file.now places.now n) n area.now p len
+    ensures { ChildIs (rows_of rows.now) rows.now.n area.now p len
         (drop at text.now) result.row result.len }
 {
     let next = text[at];
-    if n <= row_of(first) {
+    if rows.n <= row_of(first) {
         return no_match();
     }
     if is_one_longer(first, next) {
@@ -203,37 +183,26 @@ fn bucket_child(
             len: len + 1,
         };
     }
-    listed_child(file, places, area, n, first, p, len, text, at)
+    listed_child(rows, area, first, p, len, text, at)
 }
 
 // The row that is the byte b alone, where there is one: it is first in its bucket.
-pub fn byte_row(file: &[u8], places: &[u32], area: &[u32], n: usize, b: u8) -> u32
-    requires placed { Placed file.now places.now n }
+pub fn byte_row(rows: &Rows<'_>, area: &[u32], b: u8) -> u32
     requires hints_in_bounds { hints ≤ length area.now }
-    ensures { ByteRow (row file.now places.now n) n area.now b result }
+    ensures { ByteRow (rows_of rows.now) rows.now.n area.now b result }
 {
     let w = area[root_bucket(b)];
-    if n <= row_of(w) {
+    if rows.n <= row_of(w) {
         return NONE;
     }
     w % 8192
 }
 
 // The child of row p, of len bytes, that goes on as the text from at on does, or NONE.
-pub fn child(
-    file: &[u8],
-    places: &[u32],
-    area: &[u32],
-    n: usize,
-    p: u32,
-    len: usize,
-    text: &[u8],
-    at: usize,
-) -> Match
-    requires placed { Placed file.now places.now n }
-    requires p_lt_n { (p < n) × ((hints ≤ length area.now) × (at ≤ length text.now)) }
+pub fn child(rows: &Rows<'_>, area: &[u32], p: u32, len: usize, text: &[u8], at: usize) -> Match
+    requires p_lt_n { (p < rows.now.n) × ((hints ≤ length area.now) × (at ≤ length text.now)) }
     requires at_bound { len + (length text.now - at) < 18446744073709551616 }
-    ensures { ChildIs (row file.now places.now n) n area.now p len
+    ensures { ChildIs (rows_of rows.now) rows.now.n area.now p len
         (drop at text.now) result.row result.len }
 {
     if text.len() <= at {
@@ -243,34 +212,21 @@ pub fn child(
     if !may_have_child(area, p, next) {
         return no_match();
     }
-    bucket_child(
-        file,
-        places,
-        area,
-        n,
-        area[bucket(p, next)],
-        p,
-        len,
-        text,
-        at,
-    )
+    bucket_child(rows, area, area[bucket(p, next)], p, len, text, at)
 }
 
 // The longest row that begins the bytes of row from, len of them, followed by the text from at on, with its length.
 pub fn descend(
-    file: &[u8],
-    places: &[u32],
+    rows: &Rows<'_>,
     area: &[u32],
-    n: usize,
     from: u32,
     len: usize,
     text: &[u8],
     at: usize,
 ) -> Match
-    requires placed { Placed file.now places.now n }
-    requires from_lt_n { (from < n) × ((hints ≤ length area.now) × (at ≤ length text.now)) }
+    requires from_lt_n { (from < rows.now.n) × ((hints ≤ length area.now) × (at ≤ length text.now)) }
     requires at_bound { len + (length text.now - at) < 18446744073709551616 }
-    ensures { Descent (row file.now places.now n) n area.now from len
+    ensures { Descent (rows_of rows.now) rows.now.n area.now from len
         (drop at text.now) result.row result.len }
 {
     let mut best = from;
@@ -285,7 +241,7 @@ pub fn descend(
             };
         }
         let w = area[bucket(best, next)];
-        if n <= row_of(w) {
+        if rows.n <= row_of(w) {
             return Match {
                 row: best,
                 len: size,
@@ -296,7 +252,7 @@ pub fn descend(
             end += 1;
             continue;
         }
-        let m = child(file, places, area, n, best, size, text, end);
+        let m = child(rows, area, best, size, text, end);
         let r = m.row;
         if r == NONE {
             return Match {
@@ -314,42 +270,30 @@ pub fn descend(
 }
 
 // The shortest row that begins the text from at on, with its length, or NONE.
-fn root_child(file: &[u8], places: &[u32], area: &[u32], n: usize, text: &[u8], at: usize) -> Match
-    requires placed { Placed file.now places.now n }
+fn root_child(rows: &Rows<'_>, area: &[u32], text: &[u8], at: usize) -> Match
     requires hints_in_bounds { (hints ≤ length area.now) × (at ≤ length text.now) }
-    ensures { ChildIs (row file.now places.now n) n area.now none 0
+    ensures { ChildIs (rows_of rows.now) rows.now.n area.now none 0
         (drop at text.now) result.row result.len }
 {
     if text.len() <= at {
         return no_match();
     }
-    bucket_child(
-        file,
-        places,
-        area,
-        n,
-        area[root_bucket(text[at])],
-        NONE,
-        0,
-        text,
-        at,
-    )
+    bucket_child(rows, area, area[root_bucket(text[at])], NONE, 0, text, at)
 }
 
 // The longest row that begins the text from at on, with its length, or NONE and 0.
-pub fn longest(file: &[u8], places: &[u32], area: &[u32], n: usize, text: &[u8], at: usize) -> Match
-    requires placed { Placed file.now places.now n }
+pub fn longest(rows: &Rows<'_>, area: &[u32], text: &[u8], at: usize) -> Match
     requires hints_in_bounds { (hints ≤ length area.now) × (at ≤ length text.now) }
-    ensures { Descent (row file.now places.now n) n area.now none 0
+    ensures { Descent (rows_of rows.now) rows.now.n area.now none 0
         (drop at text.now) result.row result.len }
 {
-    let m = root_child(file, places, area, n, text, at);
+    let m = root_child(rows, area, text, at);
     let r = m.row;
     if r == NONE {
         return Match { row: NONE, len: 0 };
     }
     let l = m.len;
-    descend(file, places, area, n, r, l, text, at + l)
+    descend(rows, area, r, l, text, at + l)
 }
 
 // Where a word comes into bucket h: at its head where the bucket is empty, else at the link of its first word.
@@ -386,21 +330,26 @@ fn bucket_of(p: u32, b: u8) -> usize
 }
 
 // Row c goes into the area, under the longest row in it that begins row c.
-pub fn insert(file: &[u8], places: &[u32], area: &mut [u32], n: usize, c: usize)
-    requires placed { Placed file.now places.now n }
-    requires hints_in_bounds { (hints ≤ length area.old) × ((c < n) × (length (row file.now places.now n c) ≤ 64)) }
-    ensures { Inserted (row file.now places.now n) n area.old c
+pub fn insert(rows: &Rows<'_>, area: &mut [u32], c: usize)
+    requires hints_in_bounds { (hints ≤ length area.old) × ((c < rows.now.n) × (length (rows_of rows.now c) ≤ 64)) }
+    ensures { Inserted (rows_of rows.now) rows.now.n area.old c
         area.new }
 {
-    let bytes = placed_rows::bytes_of(file, places, n, c);
-    let m = longest(file, places, area, n, bytes, 0);
+    let bytes = rows.bytes_of(c);
+    let m = longest(rows, area, bytes, 0);
     let p = m.row;
     let k = m.len;
     if k < bytes.len() {
         let next = bytes[k];
         let h = bucket_of(p, next);
         marks::mark(area, ROW_MARKS, child_key(p, next));
-        push(area, n, h, c, word_of(c, tag_of(bytes, k), bytes.len() - k));
+        push(
+            area,
+            rows.n,
+            h,
+            c,
+            word_of(c, tag_of(bytes, k), bytes.len() - k),
+        );
     }
 }
 
@@ -409,9 +358,5 @@ pub fn clear(area: &mut [u32])
     requires { hints ≤ length area.old }
     ensures { area.new ≡ cleared area.old }
 {
-    let mut i = 0;
-    while i < LINKS {
-        area[i] = NONE;
-        i += 1;
-    }
+    area[..LINKS].fill(NONE);
 }

@@ -16,12 +16,12 @@ returns-then-not-may_have_child c =
     rw c.no_match-then-not-may_have_child.ensures (unmarked-at _ _ _ _ _ c.args.text.now c.args.at _ (sym c.may_have_child.ensures ∙ not-true _ c.if-not-may_have_child.true-raw))
 
 pub bucket-requires : goal.bucket-requires
-bucket-requires c = let s = c in omega (arith, c.requires.p_lt_n.0, c.requires.placed.few)
+bucket-requires c = let s = c in omega (arith, c.requires.p_lt_n.0, c.args.rows.now.placed.few)
 
 pub bucket_child-requires : goal.bucket_child-requires
 bucket_child-requires c =
     let s = c in
-    record { placed = c.requires.placed; hints_in_bounds = (c.requires.p_lt_n.1.0, (omega (arith, c.if-text-at.false), ap (λ (i : ℕ). get_or c.args.area.now i 0) c.bucket.ensures.is)); at_bound = c.requires.at_bound }
+    record { hints_in_bounds = (c.requires.p_lt_n.1.0, (omega (arith, c.if-text-at.false), ap (λ (i : ℕ). get_or c.args.area.now i 0) c.bucket.ensures.is)); at_bound = c.requires.at_bound }
 
 pub returns : goal.returns
 returns c = c.bucket_child.ensures

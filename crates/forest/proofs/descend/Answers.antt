@@ -5,7 +5,7 @@ use Prim.Native.Nat.{ℕ, ◌+◌, ◌-◌, ◌≤◌, ◌<◌}
 use native.Mathlib.Omega.{arith}
 use lib.ListN.{length, length-drop, get_or, drop}
 use borrow.Author.Tests.{not-true}
-use Rattle.placed_rows.specs.Rows.{row}
+use Rattle.placed_rows.specs.Reading.{rows_of}
 use Rattle.forest.specs.Words.{row_of}
 use Rattle.forest.proofs.Places.{rest-later, one_at, none-at, unmarked-at}
 use Rattle.forest.proofs.Descending.{Descending, Turn, turn, descend_start, descend_stop, descend_end}
@@ -42,15 +42,15 @@ returns-then-not-may_have_child c =
     (unmarked-at _ _ _ _ _ a.text.now l.end 0 (sym c.may_have_child.ensures ∙ not-true _ c.if-not-may_have_child.true-raw)) (rest-later a.text.now a.at l.end l.invariant.0) refl
 
 pub bucket-requires : goal.bucket-requires
-bucket-requires c = omega (arith, c.loop-end.invariant.1.1.0, c.requires.placed.few)
+bucket-requires c = omega (arith, c.loop-end.invariant.1.1.0, c.args.rows.now.placed.few)
 
-pub returns-then-n-row_of : goal.returns-then-n-row_of
-returns-then-n-row_of c =
+pub returns-then-rows-row_of : goal.returns-then-rows-row_of
+returns-then-rows-row_of c =
     let l = c.loop-end in
     let a = c.args in
     let h = c.bucket in
     descend_stop _ _ _ _ _ _ _ _ _ _ _ _ (inside _ _ _ l.invariant.0 l.invariant.1.0) l.invariant.1.1.1
-    (none-at _ _ _ _ _ a.text.now l.end _ h.result 0 h.ensures.is refl (omega (arith, c.row_of.ensures.is, c.if-n-row_of.true))) (rest-later a.text.now a.at l.end l.invariant.0) refl
+    (none-at _ _ _ _ _ a.text.now l.end _ h.result 0 h.ensures.is refl (omega (arith, c.row_of.ensures.is, c.if-rows-row_of.true))) (rest-later a.text.now a.at l.end l.invariant.0) refl
 
 pub loop-end-preserved-then-is_one_longer : goal.loop-end-preserved-then-is_one_longer
 loop-end-preserved-then-is_one_longer c =
@@ -58,13 +58,13 @@ loop-end-preserved-then-is_one_longer c =
     let a = c.args in
     let l = c.loop-end in
     let h = c.bucket in
-    let q : row_of (get_or a.area.now h.result 0) < a.n = omega (arith, c.row_of.ensures.is, c.if-n-row_of.false) in
+    let q : row_of (get_or a.area.now h.result 0) < a.rows.now.n = omega (arith, c.row_of.ensures.is, c.if-rows-row_of.false) in
     let t = turn _ _ _ _ _ _ _ _ _ _ _ _ (inside _ _ _ l.invariant.0 l.invariant.1.0) l.invariant.1.1.1
-    (one_at _ _ _ _ _ a.text.now l.end _ h.result (a.len + (l.end - a.at) + 1) h.ensures.is refl (c.is_one_longer.ensures c.if-is_one_longer.true) q c.requires.placed.few
+    (one_at _ _ _ _ _ a.text.now l.end _ h.result (a.len + (l.end - a.at) + 1) h.ensures.is refl (c.is_one_longer.ensures c.if-is_one_longer.true) q c.args.rows.now.placed.few
     (omega (arith, c.type_inv.text l.end))
     (omega (arith, c.loop-end-test.true))
     refl)
-    (rest-later a.text.now a.at l.end l.invariant.0) (λ z. let x = c.requires.placed.few in omega arith) in
+    (rest-later a.text.now a.at l.end l.invariant.0) (λ z. let x = c.args.rows.now.placed.few in omega arith) in
     let z : l.end - a.at + (a.len + (l.end - a.at) + 1 - (a.len + (l.end - a.at))) ≡ l.end + 1 - a.at = omega (arith, l.invariant.0) in
     let y : a.len + (l.end - a.at) + 1 ≡ a.len + (l.end + 1 - a.at) = omega (arith, l.invariant.0) in
     (omega (arith, l.invariant.0), (omega (arith, c.loop-end-test.true), (q, here y z t.gone)))
@@ -73,7 +73,7 @@ pub child-m-requires : goal.child-m-requires
 child-m-requires c =
     let s = c in
     let l = c.loop-end in
-    record { placed = c.requires.placed; p_lt_n = (l.invariant.1.1.0, (c.requires.from_lt_n.1.0, l.invariant.1.0)); at_bound = omega (arith, c.requires.at_bound, l.invariant.0, l.invariant.1.0) }
+    record { p_lt_n = (l.invariant.1.1.0, (c.requires.from_lt_n.1.0, l.invariant.1.0)); at_bound = omega (arith, c.requires.at_bound, l.invariant.0, l.invariant.1.0) }
 
 pub returns-then-r : goal.returns-then-r
 returns-then-r c =
@@ -84,7 +84,7 @@ returns-then-r c =
 pub overflow_sub-end : goal.overflow_sub-end
 overflow_sub-end c =
     let gone : (let a = c.args in let l = c.loop-end in let r = c.child-m.result in
-    Turn (row a.file.now a.places.now a.n) a.n a.area.now a.from a.len (drop a.at a.text.now) l.best (a.len + (l.end - a.at)) (l.end - a.at) r.row r.len) = let a = c.args in
+    Turn (rows_of a.rows.now) a.rows.now.n a.area.now a.from a.len (drop a.at a.text.now) l.best (a.len + (l.end - a.at)) (l.end - a.at) r.row r.len) = let a = c.args in
     let l = c.loop-end in
     turn _ _ _ _ _ _ _ _ _ _ _ _ (inside _ _ _ l.invariant.0 l.invariant.1.0) l.invariant.1.1.1 c.child-m.ensures (rest-later a.text.now a.at l.end l.invariant.0) c.if-r.false in
     let t = gone in omega (arith, t.step.longer)
@@ -92,18 +92,18 @@ overflow_sub-end c =
 pub overflow_add-end-in-loop-end : goal.overflow_add-end-in-loop-end
 overflow_add-end-in-loop-end c =
     let gone : (let a = c.args in let l = c.loop-end in let r = c.child-m.result in
-    Turn (row a.file.now a.places.now a.n) a.n a.area.now a.from a.len (drop a.at a.text.now) l.best (a.len + (l.end - a.at)) (l.end - a.at) r.row r.len) = let a = c.args in
+    Turn (rows_of a.rows.now) a.rows.now.n a.area.now a.from a.len (drop a.at a.text.now) l.best (a.len + (l.end - a.at)) (l.end - a.at) r.row r.len) = let a = c.args in
     let l = c.loop-end in
     turn _ _ _ _ _ _ _ _ _ _ _ _ (inside _ _ _ l.invariant.0 l.invariant.1.0) l.invariant.1.1.1 c.child-m.ensures (rest-later a.text.now a.at l.end l.invariant.0) c.if-r.false in
     let t = gone in
     let s = c in
     let l = c.loop-end in
-    omega (arith, t.step.fits, t.step.longer, length-drop c.args.at c.args.text.now, l.invariant.0, l.invariant.1.0, c.well_formed.1.1.1.1.1.1.0.0)
+    omega (arith, t.step.fits, t.step.longer, length-drop c.args.at c.args.text.now, l.invariant.0, l.invariant.1.0, c.well_formed.1.1.1.1.0.0)
 
 pub loop-end-smaller : goal.loop-end-smaller
 loop-end-smaller c =
     let gone : (let a = c.args in let l = c.loop-end in let r = c.child-m.result in
-    Turn (row a.file.now a.places.now a.n) a.n a.area.now a.from a.len (drop a.at a.text.now) l.best (a.len + (l.end - a.at)) (l.end - a.at) r.row r.len) = let a = c.args in
+    Turn (rows_of a.rows.now) a.rows.now.n a.area.now a.from a.len (drop a.at a.text.now) l.best (a.len + (l.end - a.at)) (l.end - a.at) r.row r.len) = let a = c.args in
     let l = c.loop-end in
     turn _ _ _ _ _ _ _ _ _ _ _ _ (inside _ _ _ l.invariant.0 l.invariant.1.0) l.invariant.1.1.1 c.child-m.ensures (rest-later a.text.now a.at l.end l.invariant.0) c.if-r.false in
     let t = gone in omega (arith, t.step.longer, t.step.fits, c.loop-end-test.true)
@@ -111,7 +111,7 @@ loop-end-smaller c =
 pub loop-end-preserved : goal.loop-end-preserved
 loop-end-preserved c =
     let gone : (let a = c.args in let l = c.loop-end in let r = c.child-m.result in
-    Turn (row a.file.now a.places.now a.n) a.n a.area.now a.from a.len (drop a.at a.text.now) l.best (a.len + (l.end - a.at)) (l.end - a.at) r.row r.len) = let a = c.args in
+    Turn (rows_of a.rows.now) a.rows.now.n a.area.now a.from a.len (drop a.at a.text.now) l.best (a.len + (l.end - a.at)) (l.end - a.at) r.row r.len) = let a = c.args in
     let l = c.loop-end in
     turn _ _ _ _ _ _ _ _ _ _ _ _ (inside _ _ _ l.invariant.0 l.invariant.1.0) l.invariant.1.1.1 c.child-m.ensures (rest-later a.text.now a.at l.end l.invariant.0) c.if-r.false in
     let t = gone in

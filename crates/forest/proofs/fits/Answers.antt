@@ -5,7 +5,7 @@ use Prim.Native.Nat.{ℕ, ◌+◌, ◌-◌, ◌%◌}
 use native.Mathlib.Omega.{arith}
 use lib.ListN.{length, length-drop, take, drop}
 use lib.Seq.{get_or-drop, take_all}
-use Rattle.placed_rows.specs.Rows.{row}
+use Rattle.placed_rows.specs.Reading.{rows_of}
 use Rattle.placed_rows.specs.Texts.{begins}
 use Rattle.forest.proofs.Fitting.{fits-other, fits-long, fits_one, fits_unlike_second, fits-unlike, fits-compared}
 use Rattle.forest.proofs.Places.{first-at, rest_at}
@@ -15,19 +15,19 @@ pub overflow_cast-text : goal.overflow_cast-text
 overflow_cast-text c = omega (arith, c.type_inv.text c.args.at)
 
 pub returns-then-w-text : goal.returns-then-w-text
-returns-then-w-text c = let s = c in fits-other _ _ _ _ _ _ c.requires.placed.few (λ e. c.if-w-text.true (e ∙ first-at c.args.text.now c.args.at))
+returns-then-w-text c = let s = c in fits-other _ _ _ _ _ _ c.args.rows.now.placed.few (λ e. c.if-w-text.true (e ∙ first-at c.args.text.now c.args.at))
 
 pub returns-then-text-at : goal.returns-then-text-at
 returns-then-text-at c =
     let s = c in
-    fits-long _ _ _ _ _ _ c.requires.placed.few (omega (arith, c.more_of-more.ensures.is, c.if-text-at.true, length-drop c.args.at c.args.text.now))
+    fits-long _ _ _ _ _ _ c.args.rows.now.placed.few (omega (arith, c.more_of-more.ensures.is, c.if-text-at.true, length-drop c.args.at c.args.text.now))
 
 pub returns-then-more-eq1 : goal.returns-then-more-eq1
 returns-then-more-eq1 c =
     let s = c in
     let text = c.args.text.now in
     let at = c.args.at in
-    fits_one _ _ _ _ _ _ c.requires.placed.few (c.if-w-text.false ∙ sym (first-at text at)) (omega (arith, c.more_of-more.ensures.is, c.if-more-eq1.true)) (omega (arith, length-drop at text, c.requires.w_bound.1))
+    fits_one _ _ _ _ _ _ c.args.rows.now.placed.few (c.if-w-text.false ∙ sym (first-at text at)) (omega (arith, c.more_of-more.ensures.is, c.if-more-eq1.true)) (omega (arith, length-drop at text, c.requires.w_bound.1))
 
 pub bounds-text-at-2 : goal.bounds-text-at-2
 bounds-text-at-2 c = omega (arith, c.if-more-eq1.false, c.if-text-at.false, c.more_of-more.ensures.is)
@@ -38,21 +38,21 @@ overflow_cast-text-2 c = omega (arith, c.type_inv.text (c.args.at + 1))
 pub returns-then-w-text-2 : goal.returns-then-w-text-2
 returns-then-w-text-2 c =
     let s = c in
-    fits_unlike_second _ _ _ _ _ _ c.requires.placed.few (λ e. c.if-w-text-2.true (e ∙ ap (λ (b : ℕ). b % 32) (get_or-drop c.args.at c.args.text.now 1 0)))
+    fits_unlike_second _ _ _ _ _ _ c.args.rows.now.placed.few (λ e. c.if-w-text-2.true (e ∙ ap (λ (b : ℕ). b % 32) (get_or-drop c.args.at c.args.text.now 1 0)))
     (omega (arith, c.more_of-more.ensures.is, c.if-more-eq1.false))
 
 pub bytes_of-bytes-requires : goal.bytes_of-bytes-requires
-bytes_of-bytes-requires c = let s = c in record { placed = c.requires.placed; c_lt_n = omega (arith, c.row_of.ensures.is, c.requires.w_bound.0) }
+bytes_of-bytes-requires c = let s = c in omega (arith, c.row_of.ensures.is, c.requires.w_bound.0)
 
 pub returns-then-bytes-len : goal.returns-then-bytes-len
 returns-then-bytes-len c =
     let s = c in
-    fits-unlike _ _ _ _ _ _ c.requires.placed.few c.row_of.result c.row_of.ensures.is (λ e. omega (arith, c.if-bytes-len.true, ap length c.bytes_of-bytes.ensures))
+    fits-unlike _ _ _ _ _ _ c.args.rows.now.placed.few c.row_of.result c.row_of.ensures.is (λ e. omega (arith, c.if-bytes-len.true, ap length c.bytes_of-bytes.ensures))
 
 pub returns-then-bytes-len-2 : goal.returns-then-bytes-len-2
 returns-then-bytes-len-2 c =
     let s = c in
-    fits-unlike _ _ _ _ _ _ c.requires.placed.few c.row_of.result c.row_of.ensures.is
+    fits-unlike _ _ _ _ _ _ c.args.rows.now.placed.few c.row_of.result c.row_of.ensures.is
     (λ e. c.if-bytes-len-2.true (omega (arith, ap length c.bytes_of-bytes.ensures, c.more_of-more.ensures.is)))
 
 pub returns : goal.returns
@@ -63,8 +63,8 @@ returns c =
     let t = bytes.result.now in
     let text = a.text.now in
     let i = c.row_of.result in
-    fits-compared _ _ _ _ _ _ c.requires.placed.few c.begins_with.result i c.row_of.ensures.is
+    fits-compared _ _ _ _ _ _ c.args.rows.now.placed.few c.begins_with.result i c.row_of.ensures.is
     (omega (arith, ap length bytes.ensures, c.if-bytes-len-2.false, c.if-bytes-len.false, c.more_of-more.ensures.is)) (c.if-w-text.false ∙ sym (first-at text a.at))
     (c.begins_with.ensures
     ∙ ap (λ (u : List ℕ). begins u (take (length text - a.at) (drop a.at text))) (take_all (length t - a.len) (drop a.len t) (omega (arith, length-drop a.len t)) ∙ ap (drop a.len) bytes.ensures)
-    ∙ ap (λ (u : List ℕ). begins (drop a.len (row a.file.now a.places.now a.n i)) u) (rest_at text a.at))
+    ∙ ap (λ (u : List ℕ). begins (drop a.len (rows_of a.rows.now i)) u) (rest_at text a.at))

@@ -12,7 +12,7 @@ returns-then-text-at c = rw c.no_match.ensures (empty-at _ _ _ _ _ _ _ _ c.if-te
 pub bucket_child-requires : goal.bucket_child-requires
 bucket_child-requires c =
     let s = c in
-    record { placed = c.requires.placed; hints_in_bounds = (c.requires.hints_in_bounds.0, (omega (arith, c.if-text-at.false), ap (λ (i : ℕ). get_or c.args.area.now i 0) c.root_bucket.ensures.is)); at_bound = omega (arith, c.well_formed.1.1.1.1.0.0) }
+    record { hints_in_bounds = (c.requires.hints_in_bounds.0, (omega (arith, c.if-text-at.false), ap (λ (i : ℕ). get_or c.args.area.now i 0) c.root_bucket.ensures.is)); at_bound = omega (arith, c.well_formed.1.1.0.0) }
 
 pub returns : goal.returns
 returns c = c.bucket_child.ensures

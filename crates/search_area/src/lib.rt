@@ -8,47 +8,30 @@
 ghost use Rattle.std.specs.Prelude.{◌≡◌, ℕ, ◌+◌, ◌<◌, ◌≤◌, length, drop};
 ghost use Rattle.marks.specs.Layout.{area_size};
 ghost use Rattle.theory.specs.Dictionary.{none};
-ghost use Rattle.placed_rows.specs.Rows.{Placed};
 ghost use Rattle.search_area.specs.Answers.{NextMatch, LongerMatch, FirstMatch, Found, Joined};
 
-use placed_rows::{Match, NONE};
+use placed_rows::{Match, NONE, Rows};
 
 // The longest row that begins the text from at on, with its length, or NONE and 0.
-pub fn next_match(
-    file: &[u8],
-    places: &[u32],
-    area: &[u32],
-    n: usize,
-    text: &[u8],
-    at: usize,
-) -> Match
-    requires placed { Placed file.now places.now n }
+pub fn next_match(rows: &Rows<'_>, area: &[u32], text: &[u8], at: usize) -> Match
     requires area_size_in_bounds { (area_size ≤ length area.now) × (at ≤ length text.now) }
-    ensures { NextMatch file.now places.now n area.now
+    ensures { let r = rows.now in NextMatch r.file.now r.places.now r.n area.now
         (drop at text.now) result.row result.len }
 {
-    forest::longest(file, places, area, n, text, at)
+    forest::longest(rows, area, text, at)
 }
 
 // The shortest row that begins the text from at on, with its length, or NONE: each byte is a row.
-pub fn first_match(
-    file: &[u8],
-    places: &[u32],
-    area: &[u32],
-    n: usize,
-    text: &[u8],
-    at: usize,
-) -> Match
-    requires placed { Placed file.now places.now n }
+pub fn first_match(rows: &Rows<'_>, area: &[u32], text: &[u8], at: usize) -> Match
     requires area_size_in_bounds { (area_size ≤ length area.now) × (at ≤ length text.now) }
-    ensures { FirstMatch file.now places.now n area.now
+    ensures { let r = rows.now in FirstMatch r.file.now r.places.now r.n area.now
         (drop at text.now) result.row result.len }
 {
     if text.len() <= at {
         return Match { row: NONE, len: 0 };
     }
     Match {
-        row: forest::byte_row(file, places, area, n, text[at]),
+        row: forest::byte_row(rows, area, text[at]),
         len: 1,
     }
 }
@@ -56,44 +39,39 @@ pub fn first_match(
 // The shortest row that begins the text from at on and is longer than row, of len bytes, which begins it too, with
 // its length, or NONE.
 pub fn longer_match(
-    file: &[u8],
-    places: &[u32],
+    rows: &Rows<'_>,
     area: &[u32],
-    n: usize,
     row: u32,
     len: usize,
     text: &[u8],
     at: usize,
 ) -> Match
-    requires placed { Placed file.now places.now n }
-    requires row_lt_n { (row < n) × ((area_size ≤ length area.now) × (at + len ≤ length text.now)) }
-    ensures { LongerMatch file.now places.now n area.now
+    requires row_lt_n { (row < rows.now.n) × ((area_size ≤ length area.now) × (at + len ≤ length text.now)) }
+    ensures { let r = rows.now in LongerMatch r.file.now r.places.now r.n area.now
         (drop at text.now) row len result.row result.len }
 {
-    forest::child(file, places, area, n, row, len, text, at + len)
+    forest::child(rows, area, row, len, text, at + len)
 }
 
 // The row with these bytes, or NONE.
-pub fn find(file: &[u8], places: &[u32], area: &[u32], n: usize, bytes: &[u8]) -> u32
-    requires placed { Placed file.now places.now n }
+pub fn find(rows: &Rows<'_>, area: &[u32], bytes: &[u8]) -> u32
     requires area_size_in_bounds { area_size ≤ length area.now }
-    ensures { Found file.now places.now n area.now bytes.now result }
+    ensures { let r = rows.now in Found r.file.now r.places.now r.n area.now bytes.now result }
 {
-    let m = forest::longest(file, places, area, n, bytes, 0);
+    let m = forest::longest(rows, area, bytes, 0);
     let r = m.row;
     let l = m.len;
     if l == bytes.len() { r } else { NONE }
 }
 
 // The row with the bytes of row x followed by those of row y, or NONE.
-pub fn join(file: &[u8], places: &[u32], area: &[u32], n: usize, x: u32, y: u32) -> u32
-    requires placed { Placed file.now places.now n }
-    requires area_size_in_bounds { (area_size ≤ length area.now) × ((x < n) × (y < n)) }
-    ensures { Joined file.now places.now n area.now x y result }
+pub fn join(rows: &Rows<'_>, area: &[u32], x: u32, y: u32) -> u32
+    requires area_size_in_bounds { (area_size ≤ length area.now) × ((x < rows.now.n) × (y < rows.now.n)) }
+    ensures { let r = rows.now in Joined r.file.now r.places.now r.n area.now x y result }
 {
-    let a = placed_rows::length_of(file, places, n, placed_rows::wide(x));
-    let bytes = placed_rows::bytes_of(file, places, n, placed_rows::wide(y));
-    let m = forest::descend(file, places, area, n, x, a, bytes, 0);
+    let a = rows.length_of(x as usize);
+    let bytes = rows.bytes_of(y as usize);
+    let m = forest::descend(rows, area, x, a, bytes, 0);
     let r = m.row;
     let l = m.len;
     if l == a + bytes.len() { r } else { NONE }

@@ -16,7 +16,7 @@ returns c =
     let a = c.args in
     let k : a.at + 0 ≡ a.at = omega arith in
     let e : get_or (drop a.at a.text.now) 0 0 ≡ get_or a.text.now a.at 0 = get_or-drop a.at a.text.now 0 0 ∙ ap (λ (i : ℕ). get_or a.text.now i 0) k in (
-      first_byte_lem _ _ _ _ (drop a.at a.text.now) _ c.requires.placed.few (omega (arith, c.if-text-at.false, length-drop a.at a.text.now)) (omega (arith, e, c.type_inv.text a.at))
+      first_byte_lem _ _ _ _ (drop a.at a.text.now) _ c.args.rows.now.placed.few (omega (arith, c.if-text-at.false, length-drop a.at a.text.now)) (omega (arith, e, c.type_inv.text a.at))
           (rw e c.byte_row.ensures),
       omega arith,
     )

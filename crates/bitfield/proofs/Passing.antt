@@ -2,7 +2,7 @@
 use mathlib.Core.Path.{◌≡◌, ◌∙◌}
 use mathlib.Core.Bool.{Bool, false}
 use mathlib.Core.List.{List}
-use mathlib.Core.Option.{none, some}
+use Rattle.std.specs.Prelude.{None, Some}
 use Prim.Native.Nat.{ℕ, suc, ◌+◌, ◌-◌, ◌*◌, ◌/◌, ◌%◌, ◌<◌, ◌≤◌}
 use native.Mathlib.Decide.{dec_lt}
 use native.Mathlib.Omega.{arith}
@@ -13,7 +13,7 @@ use Rattle.bitfield.proofs.Sets.{set_below, set_beyond}
 
 -- no bit from a on below b is set
 abbrev pub Clear : (ℕ → Bool) → ℕ → ℕ → Type 0
-Clear bits a b = Lowest bits a b none
+Clear bits a b = Lowest bits a b None
 
 joined : (bits : ℕ → Bool) (a b c : ℕ) → Clear bits a b → Clear bits b c → Clear bits a c
 joined bits a b c x y j i = go (dec_lt j b)
@@ -44,10 +44,10 @@ module _ (ws : List ℕ) (i : ℕ) where
     pub up-past : (t : ℕ) → t ≤ 64 → Clear (word_bit (get_or ws i 0)) s t → Clear (is_set ws) p (i * 64 + t)
     up-past t h c = joined (is_set ws) p (i * 64 + s) (i * 64 + t) behind (clear_in_word s t h c)
 
-    pub up_at : (k : ℕ) → Lowest (word_bit (get_or ws i 0)) s 64 (some k) → Clear (is_set ws) p (i * 64 + k)
+    pub up_at : (k : ℕ) → Lowest (word_bit (get_or ws i 0)) s 64 (Some k) → Clear (is_set ws) p (i * 64 + k)
     up_at k r = up-past k (omega arith) (λ j b. r.clear j (b.0, omega arith) b.1)
 
-    pub up-found : (k : ℕ) → Lowest (word_bit (get_or ws i 0)) s 64 (some k) → i * 64 + k < 4097 → Lowest (is_set ws) p 4097 (some (i * 64 + k))
+    pub up-found : (k : ℕ) → Lowest (word_bit (get_or ws i 0)) s 64 (Some k) → i * 64 + k < 4097 → Lowest (is_set ws) p 4097 (Some (i * 64 + k))
     up-found k r l = record {
       inside = (omega arith, l);
       here = in_word k (omega arith) l ∙ r.here;
@@ -59,7 +59,7 @@ module _ (ws : List ℕ) (i : ℕ) where
     pub down-past : (t : ℕ) → Clear (word_bit (get_or ws i 0)) t (suc s) → Clear (is_set ws) (i * 64 + t) (suc p)
     down-past t c j b = joined (is_set ws) (i * 64 + t) (i * 64 + s + 1) (suc p) (λ k a. clear_in_word t (suc s) (omega arith) c k (a.0, omega arith)) behind j b
 
-    pub down-found : (k : ℕ) → Highest (word_bit (get_or ws i 0)) (suc s) (some k) → Highest (is_set ws) (suc p) (some (i * 64 + k))
+    pub down-found : (k : ℕ) → Highest (word_bit (get_or ws i 0)) (suc s) (Some k) → Highest (is_set ws) (suc p) (Some (i * 64 + k))
     down-found k r = record {
       inside = omega arith;
       here = in_word k (omega arith) (omega arith) ∙ r.here;

@@ -1,7 +1,7 @@
 -- What the searches of specs/Bits.antt answer: their answers are as described here, and no other answer is. Assumes nothing.
 use mathlib.Core.Path.{◌≡◌, refl, ap}
 use mathlib.Core.Bool.{Bool, true, false, cond}
-use mathlib.Core.Option.{Option, none, some}
+use Rattle.std.specs.Prelude.{Option, None, Some}
 use Prim.Native.Nat.{ℕ, zero, suc, ◌-◌, ◌<◌, ◌≤◌}
 use native.Mathlib.Decide.{ℕ_discrete}
 use native.Mathlib.Omega.{arith}
@@ -15,8 +15,8 @@ pub record First (bits : ℕ → Bool) (In : ℕ → Type 0) (Before : ℕ → �
 
 -- an answer of a search: the first set bit, or none where none is set
 abbrev pub Answer : (ℕ → Bool) → (ℕ → Type 0) → (ℕ → ℕ → Type 0) → Option ℕ → Type 0
-Answer bits In Before none = (j : ℕ) → In j → bits j ≡ false
-Answer bits In Before (some q) = First bits In Before q
+Answer bits In Before None = (j : ℕ) → In j → bits j ≡ false
+Answer bits In Before (Some q) = First bits In Before q
 
 -- of a search upwards through the bits from p on below e, and of one downwards through those below e
 abbrev pub Lowest : (ℕ → Bool) → ℕ → ℕ → Option ℕ → Type 0
@@ -32,16 +32,16 @@ module _ (bits : ℕ → Bool) (In : ℕ → Type 0) (Before : ℕ → ℕ → T
   clash q s c = let z : ◌≡◌ {A = ℕ} 0 1 = cc in omega arith
 
   only : (a b : Option ℕ) → Answer bits In Before a → Answer bits In Before b → a ≡ b
-  only none none x y = refl
-  only none (some r) x y = absurd (clash r y.here (x r y.inside))
-  only (some q) none x y = absurd (clash q x.here (y q x.inside))
-  only (some q) (some r) x y =
-      ap some (total q r (λ b. clash q x.here (y.clear q x.inside b)) (λ b. clash r y.here (x.clear r y.inside b)))
+  only None None x y = refl
+  only None (Some r) x y = absurd (clash r y.here (x r y.inside))
+  only (Some q) None x y = absurd (clash q x.here (y q x.inside))
+  only (Some q) (Some r) x y =
+      ap Some (total q r (λ b. clash q x.here (y.clear q x.inside b)) (λ b. clash r y.here (x.clear r y.inside b)))
 
 -- a search looks at bit p first, and then goes on through the rest
 module _ (bits : ℕ → Bool) (In Rest : ℕ → Type 0) (Before : ℕ → ℕ → Type 0) (p : ℕ) (inside : In p)
     (first : (j : ℕ) → In j → Before j p → ⊥) (rest : (j : ℕ) → In j → (j ≡ p → ⊥) → Rest j) (more : (j : ℕ) → Rest j → In j) where
-  step : (o : Option ℕ) → Answer bits Rest Before o → Answer bits In Before (cond (bits p) (some p) o)
+  step : (o : Option ℕ) → Answer bits Rest Before o → Answer bits In Before (cond (bits p) (Some p) o)
   step o = go (bits p) refl o
     where
       passed : bits p ≡ false → (j : ℕ) → In j → (Rest j → bits j ≡ false) → bits j ≡ false
@@ -51,10 +51,10 @@ module _ (bits : ℕ → Bool) (In Rest : ℕ → Type 0) (Before : ℕ → ℕ 
           at (yes e) = rw e s
           at (no n) = f (rest j i n)
 
-      go : (b : Bool) → bits p ≡ b → (o : Option ℕ) → Answer bits Rest Before o → Answer bits In Before (cond b (some p) o)
+      go : (b : Bool) → bits p ≡ b → (o : Option ℕ) → Answer bits Rest Before o → Answer bits In Before (cond b (Some p) o)
       go true s o r = record { inside = inside; here = s; clear = λ j i b. absurd (first j i b) }
-      go false s none r = λ j i. passed s j i (r j)
-      go false s (some q) r =
+      go false s None r = λ j i. passed s j i (r j)
+      go false s (Some q) r =
           record { inside = more q r.inside; here = r.here; clear = λ j i b. passed s j i (λ t. r.clear j t b) }
 
 module _ (bits : ℕ → Bool) where

@@ -2,7 +2,7 @@
 use mathlib.Core.Path.{◌≡◌, sym, ap, ◌∙◌, fun_ext}
 use mathlib.Core.List.{List}
 use mathlib.Core.Bool.{true, false}
-use Prim.Native.Nat.{ℕ, suc, ◌+◌, ◌-◌, ◌/◌, ◌%◌, ◌^◌, ◌<◌, ◌≤◌}
+use Prim.Native.Nat.{ℕ, ◌/◌, ◌%◌, ◌^◌, ◌<◌, ◌≤◌}
 use native.Mathlib.Decide.{dec_lt, ℕ_discrete}
 use native.Mathlib.Omega.{arith}
 use native.Mathlib.Nat.{zero-div}
@@ -11,7 +11,7 @@ use lib.Seq.{get_or-set_same, get_or-set_other, set_out}
 use borrow.Author.Tests.{lt-ltb, le-ltb}
 use Rattle.bitfield.specs.Bits.{word_bit, is_set, all_set, without}
 use Rattle.bitfield.proofs.Without.{without-same, without_other, without-clear}
-use Rattle.bitfield.proofs.Digits.{ones_digit}
+use Rattle.std.proofs.lemmas.Nat.Bits.{bit_at_ones}
 use Rattle.bitfield.proofs.Words.{bit_of}
 
 pub set_below : (ws : List ℕ) (p : ℕ) → p < 4097 → is_set ws p ≡ word_bit (get_or ws (p / 64) 0) (p % 64)
@@ -27,9 +27,7 @@ unfolding is_set all_set
 all_ones = fun_ext (λ p. go p (dec_lt p 4097))
   where
     one : (j : ℕ) → j < 64 → word_bit 18446744073709551615 j ≡ true
-    one j h =
-        let e : suc (63 - j) + j ≡ 64 = omega arith in
-        bit_of 18446744073709551615 j 1 (ap (λ (n : ℕ). (2 ^ n - 1) / 2 ^ j % 2) (sym e) ∙ ones_digit j (63 - j))
+    one j h = bit_of 18446744073709551615 j 1 (bit_at_ones 64 j h)
 
     go : (p : ℕ) → Dec (p < 4097) → is_set (replicate 65 18446744073709551615) p ≡ all_set p
     go p (yes h) =

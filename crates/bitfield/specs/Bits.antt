@@ -1,9 +1,6 @@
 -- The bit set of document 01 ("Bit set"): 4,097 bits, bit p being bit p % 64 of word p / 64.
 -- A set of bits is the test of which bits are set, `ℕ → Bool`.
-use Rattle.std.specs.Prelude.{◌≡◌, ℕ, zero, suc, ◌-◌, ◌/◌, ◌%◌, ◌^◌, ◌<◌, List, Bool, cond, not, ◌&&◌, get_or, ltb, eqb}
-use Rattle.std.proofs.Math.Option.{Option, none, some}
-use Rattle.bitfield.specs.declared.Bit.{Bit}
-use Rattle.bitfield.specs.declared.Bit.TheVariants.{At, Nothing}
+use Rattle.std.specs.Prelude.{◌≡◌, ℕ, zero, suc, ◌-◌, ◌/◌, ◌%◌, ◌^◌, ◌<◌, List, Bool, cond, not, ◌&&◌, get_or, ltb, eqb, Option, None, Some}
 
 -- bit k of a word
 unfoldable pub word_bit : ℕ → ℕ → Bool
@@ -28,13 +25,13 @@ pub record Cleared (words : List ℕ) (p : ℕ) (words' : List ℕ) : Type 0 whe
 
 -- the lowest set bit of the n from p on
 unfoldable pub lowest : (ℕ → Bool) → ℕ → ℕ → Option ℕ
-lowest bits zero p = none
-lowest bits (suc n) p = cond (bits p) (some p) (lowest bits n (suc p))
+lowest bits zero p = None
+lowest bits (suc n) p = cond (bits p) (Some p) (lowest bits n (suc p))
 
 -- the highest set bit of the first n
 unfoldable pub highest : (ℕ → Bool) → ℕ → Option ℕ
-highest bits zero = none
-highest bits (suc n) = cond (bits n) (some n) (highest bits n)
+highest bits zero = None
+highest bits (suc n) = cond (bits n) (Some n) (highest bits n)
 
 -- "next set bit": "from the place on", or none
 unfoldable pub successor : (ℕ → Bool) → ℕ → Option ℕ
@@ -43,8 +40,3 @@ successor bits p = lowest bits (4097 - p) p
 -- "last set bit": from the place "down", or none
 unfoldable pub predecessor : (ℕ → Bool) → ℕ → Option ℕ
 predecessor bits p = highest bits (suc p)
-
--- document 01's answer for each case of the enum: the bit's place, or none
-abbrev pub place_of : Bit → Option ℕ
-place_of (At p) = some p
-place_of Nothing = none

@@ -1,6 +1,0 @@
--- `all_set` meets its contract: every bit of a word of ones is set (proofs/Sets.antt). Assumes nothing.
-use Rattle.bitfield.proofs.Sets.{all_ones}
-use Rattle.bitfield.proofs.all_set.Goals as goal
-
-pub returns : goal.returns
-returns c = all_ones

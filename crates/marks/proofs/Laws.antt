@@ -4,13 +4,10 @@ use mathlib.Core.List.{List}
 use mathlib.Core.Bool.{Bool, true, false, not, ◌&&◌, true≢false}
 use Prim.Native.Nat.{ℕ, zero, suc, ◌+◌, ◌*◌, ◌/◌, ◌%◌, ◌^◌, ◌<◌}
 use native.Mathlib.Decide.{ℕ_discrete}
-use native.Mathlib.Nat.{one-mul}
 use native.Mathlib.Omega.{arith}
 use lib.ListN.{length, get_or, set}
 use lib.Seq.{get_or-set_same, get_or-set_other}
-use lib.Pow.{shl_exact}
 use lib.Dec.{eqb}
-use borrow.Author.Tests.{eq-eqb}
 use Rattle.bitfield.specs.Bits.{word_bit, without}
 use Rattle.bitfield.proofs.Without.{without-same, without_other}
 use Rattle.marks.specs.Marks.{both_clear, marked, bit_key, Marks}
@@ -27,19 +24,6 @@ both-even m n = go (m % 2) (n % 2) (omega arith) (omega arith)
     go zero (suc (suc d)) h i = absurd (omega arith)
     go (suc zero) (suc (suc d)) h i = absurd (omega arith)
     go (suc (suc c)) d h i = absurd (omega arith)
-
--- `1 << k`
-pub mask : (k : ℕ) → k < 32 → 1 * 2 ^ k % 2 ^ 32 ≡ 2 ^ k
-mask k h = shl_exact 1 k 32 (omega arith) (omega arith) ∙ one-mul (2 ^ k)
-
--- a bit that is set, and one that is not
-pub bit_set : (w k : ℕ) → w / 2 ^ k % 2 ≡ 1 → word_bit w k ≡ true
-unfolding word_bit
-bit_set w k e = eq-eqb (w / 2 ^ k % 2) 1 e
-
-pub bit_clear : (w k : ℕ) → (w / 2 ^ k % 2 ≡ 1 → ⊥) → word_bit w k ≡ false
-unfolding word_bit
-bit_clear w k n = let e : w / 2 ^ k % 2 ≡ 0 = omega arith in rw e
 
 -- a word v that is w without its bit p: the bit is clear, and one that was clear is
 module _ (w p v : ℕ) (e : word_bit v ≡ without (word_bit w) p) where

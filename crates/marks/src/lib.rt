@@ -5,7 +5,6 @@
 
 ghost use Rattle.std.specs.Prelude.{◌≡◌, ◌+◌, ◌/◌, ◌<◌, ◌≤◌, length};
 ghost use Rattle.marks.specs.Layout.{area_size};
-ghost use Rattle.bitfield.specs.Bits.{word_bit, without};
 ghost use Rattle.marks.specs.Marks.{marked, bit_key, Marks};
 
 // Where each part of the search area begins (`specs/Layout.antt`): the heads of the buckets at 0, then these.
@@ -20,18 +19,6 @@ pub const SEAMS: usize = 14848;
 pub const PAIRS: usize = 15360;
 
 pub const AREA: usize = 16384;
-
-// A word without its bit k.
-fn word_without(word: u32, k: usize) -> u32
-    requires { k < 32 }
-    ensures { word_bit result ≡ without (word_bit word) k }
-{
-    if (word >> k) % 2 == 1 {
-        word - (1 << k)
-    } else {
-        word
-    }
-}
 
 // Whether a key is marked.
 pub fn is_marked(numbers: &[u32], base: usize, key: usize) -> bool
@@ -56,5 +43,5 @@ pub fn mark(numbers: &mut [u32], base: usize, key: usize)
     ensures { Marks numbers.old base key numbers.new }
 {
     let at = base + key / 1024;
-    numbers[at] = word_without(word_without(numbers[at], key / 32 % 32), key % 32);
+    numbers[at] = numbers[at] & !(1 << (key / 32 % 32)) & !(1 << (key % 32));
 }

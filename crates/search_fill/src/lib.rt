@@ -3,12 +3,12 @@
 
 ghost use Rattle.std.specs.Prelude.{◌≡◌, ℕ, ◌+◌, ◌*◌, ◌<◌, ◌≤◌, length};
 ghost use Rattle.marks.specs.Layout.{area_size};
-ghost use Rattle.placed_rows.specs.Rows.{row, Placed};
+ghost use Rattle.placed_rows.specs.Reading.{rows_of};
 ghost use Rattle.search_fill.specs.Filled.{AreaFilled, PrefixesFilled, Filled};
 ghost use Rattle.search_fill.specs.Steps.{emptied, RowIn, RowsIn, PrefixIs};
 
 use marks::HINTS;
-use placed_rows::NONE;
+use placed_rows::{NONE, Rows};
 
 // The rows' part is emptied.
 fn empty(area: &mut [u32])
@@ -19,80 +19,68 @@ fn empty(area: &mut [u32])
 }
 
 // Row c goes into the rows' part.
-fn add_row(file: &[u8], places: &[u32], area: &mut [u32], n: usize, c: usize)
-    requires placed { Placed file.now places.now n }
-    requires area_size_in_bounds { (area_size ≤ length area.old) × ((c < n) × (length (row file.now places.now n c) ≤ 64)) }
-    ensures { RowIn file.now places.now n area.old c area.new }
+fn add_row(rows: &Rows<'_>, area: &mut [u32], c: usize)
+    requires area_size_in_bounds { (area_size ≤ length area.old) × ((c < rows.now.n) × (length (rows_of rows.now c) ≤ 64)) }
+    ensures { let r = rows.now in RowIn r.file.now r.places.now r.n area.old c area.new }
 {
-    forest::insert(file, places, &mut area[..HINTS], n, c);
+    forest::insert(rows, &mut area[..HINTS], c);
 }
 
 // All rows of len bytes go in.
-fn add_length(file: &[u8], places: &[u32], area: &mut [u32], n: usize, len: usize)
-    requires placed { Placed file.now places.now n }
+fn add_length(rows: &Rows<'_>, area: &mut [u32], len: usize)
     requires area_size_in_bounds { (area_size ≤ length area.old) × (len ≤ 64) }
-    ensures { RowsIn file.now places.now n area.old (len * 4096)
+    ensures { let r = rows.now in RowsIn r.file.now r.places.now r.n area.old (len * 4096)
         area.new ((len + 1) * 4096) }
 {
-    let mut c = 0;
-    while c < n {
-        if placed_rows::length_of(file, places, n, c) == len {
-            add_row(file, places, area, n, c);
+    for c in 0..rows.n {
+        if rows.length_of(c) == len {
+            add_row(rows, area, c);
         }
-        c += 1;
     }
 }
 
 // The search area is filled: shorter rows first, so that the prefix of a row is there before it.
-fn fill_area(file: &[u8], places: &[u32], area: &mut [u32], n: usize)
-    requires placed { Placed file.now places.now n }
+fn fill_area(rows: &Rows<'_>, area: &mut [u32])
     requires area_size_in_bounds { area_size ≤ length area.old }
-    ensures { AreaFilled file.now places.now n area.old area.new }
+    ensures { let r = rows.now in AreaFilled r.file.now r.places.now r.n area.old area.new }
 {
     empty(area);
-    let mut len = 1;
-    while len < 65 {
-        add_length(file, places, area, n, len);
-        len += 1;
+    for len in 1..65 {
+        add_length(rows, area, len);
     }
 }
 
 // The prefix of row c: the longest row that begins what it has before its last byte.
-fn prefix_of(file: &[u8], places: &[u32], area: &[u32], n: usize, c: usize) -> u32
-    requires placed { Placed file.now places.now n }
-    requires area_size_in_bounds { (area_size ≤ length area.now) × (c < n) }
-    ensures { PrefixIs file.now places.now n area.now c result }
+fn prefix_of(rows: &Rows<'_>, area: &[u32], c: usize) -> u32
+    requires area_size_in_bounds { (area_size ≤ length area.now) × (c < rows.now.n) }
+    ensures { let r = rows.now in PrefixIs r.file.now r.places.now r.n area.now c result }
 {
-    let bytes = placed_rows::bytes_of(file, places, n, c);
+    let bytes = rows.bytes_of(c);
     if bytes.len() == 0 {
         return NONE;
     }
     let end = bytes.len() - 1;
-    let m = search_area::next_match(file, places, area, n, &bytes[..end], 0);
+    let m = search_area::next_match(rows, area, &bytes[..end], 0);
     m.row
 }
 
 // The prefixes of all rows.
-fn fill_prefixes(file: &[u8], places: &[u32], prefixes: &mut [u32], area: &[u32], n: usize)
-    requires placed { Placed file.now places.now n }
-    requires area_size_in_bounds { (area_size ≤ length area.now) × (n ≤ length prefixes.old) }
-    ensures { PrefixesFilled file.now places.now n area.now
+fn fill_prefixes(rows: &Rows<'_>, prefixes: &mut [u32], area: &[u32])
+    requires area_size_in_bounds { (area_size ≤ length area.now) × (rows.now.n ≤ length prefixes.old) }
+    ensures { let r = rows.now in PrefixesFilled r.file.now r.places.now r.n area.now
         prefixes.old prefixes.new }
 {
-    let mut c = 0;
-    while c < n {
-        prefixes[c] = prefix_of(file, places, area, n, c);
-        c += 1;
+    for c in 0..rows.n {
+        prefixes[c] = prefix_of(rows, area, c);
     }
 }
 
 // The search area and the prefixes of all rows.
-pub fn fill(file: &[u8], places: &[u32], prefixes: &mut [u32], area: &mut [u32], n: usize)
-    requires placed { Placed file.now places.now n }
-    requires n_in_bounds { (n ≤ length prefixes.old) × (area_size ≤ length area.old) }
-    ensures { Filled file.now places.now n prefixes.old area.old
+pub fn fill(rows: &Rows<'_>, prefixes: &mut [u32], area: &mut [u32])
+    requires n_in_bounds { (rows.now.n ≤ length prefixes.old) × (area_size ≤ length area.old) }
+    ensures { let r = rows.now in Filled r.file.now r.places.now r.n prefixes.old area.old
         prefixes.new area.new }
 {
-    fill_area(file, places, area, n);
-    fill_prefixes(file, places, prefixes, area, n);
+    fill_area(rows, area);
+    fill_prefixes(rows, prefixes, area);
 }

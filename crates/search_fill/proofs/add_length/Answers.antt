@@ -6,32 +6,30 @@ use Rattle.search_fill.proofs.add_length.Goals as goal
 use Rattle.search_fill.proofs.add_length.Goals.{then-length_of-len, else-length_of-len}
 
 pub loop-c-init : goal.loop-c-init
-loop-c-init c = (omega arith, rows_start _ _ _ _ _ _ (omega arith))
+loop-c-init c = rows_start _ _ _ _ _ _ (omega arith)
 
 pub add_row-requires : goal.add_row-requires
 add_row-requires c =
     let s = c in
     let l = c.loop-c in
-    record { placed = c.requires.placed; area_size_in_bounds = (omega (arith, l.invariant.1.area_length, c.requires.area_size_in_bounds.0), (omega arith, omega (arith, c.length_of.ensures.is, c.if-length_of-len.true, c.requires.area_size_in_bounds.1))) }
+    record { area_size_in_bounds = (omega (arith, l.invariant.area_length, c.requires.area_size_in_bounds.0), (omega arith, omega (arith, c.length_of.ensures.is, c.if-length_of-len.true, c.requires.area_size_in_bounds.1))) }
 
 pub loop-c-preserved : goal.loop-c-preserved
 loop-c-preserved c =
     let s = c in
     let l = c.loop-c in
-    let N = c.requires.placed.few in
-    let e = c.length_of.ensures.is in (
-      omega arith,
-      rows_join _ _ _ _ _ _ _ _ _ l.invariant.1 (elim c.if-length_of-len.branch [
-        | then-length_of-len w ↦ rw w.area-is (rows-add _ _ _ N l.area c.args.len l.c _ (omega arith) (sym e ∙ w.if-length_of-len.true) w.add_row.ensures)
-        | else-length_of-len w ↦ rw w.area-is (rows_skip _ _ _ N l.area c.args.len l.c (omega arith) (λ z. w.if-length_of-len.false (e ∙ z)))
-      ]),
-    )
+    let N = c.args.rows.now.placed.few in
+    let e = c.length_of.ensures.is in
+    rows_join _ _ _ _ _ _ _ _ _ l.invariant (elim c.if-length_of-len.branch [
+      | then-length_of-len w ↦ rw w.area-is (rows-add _ _ _ N l.area c.args.len l.c _ (omega arith) (sym e ∙ w.if-length_of-len.true) w.add_row.ensures)
+      | else-length_of-len w ↦ rw w.area-is (rows_skip _ _ _ N l.area c.args.len l.c (omega arith) (λ z. w.if-length_of-len.false (e ∙ z)))
+    ])
 
 pub shape_of-area : goal.shape_of-area
-shape_of-area c = c.loop-c.invariant.1.area_length
+shape_of-area c = c.loop-c.invariant.area_length
 
 pub returns : goal.returns
 returns c =
     let s = c in
     let l = c.loop-c in
-    rows_join _ _ _ _ _ _ _ _ _ l.invariant.1 (rows_end _ _ _ c.requires.placed.few _ c.args.len l.c (omega (arith, l.invariant.0)))
+    rows_join _ _ _ _ _ _ _ _ _ l.invariant (rows_end _ _ _ c.args.rows.now.placed.few _ c.args.len l.c (omega arith))

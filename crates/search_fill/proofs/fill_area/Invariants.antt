@@ -1,10 +1,7 @@
 -- The loop keeps that all rows shorter than len are in; at the end, all rows. Assumes nothing.
-use Prim.Native.Nat.{◌-◌, ◌*◌, ◌≤◌}
+use Prim.Native.Nat.{◌*◌}
 use Rattle.search_fill.specs.Steps.{RowsIn}
 use Rattle.search_fill.proofs.fill_area.Given as goal
 
 abbrev pub invariant-loop-len : goal.invariant-loop-len
-invariant-loop-len l = (1 ≤ l.len) × ((l.len ≤ 65) × RowsIn l.file l.places l.n l.initial.area 4096 l.area (l.len * 4096))
-
-abbrev pub decreases-loop-len : goal.decreases-loop-len
-decreases-loop-len l = 65 - l.len
+invariant-loop-len l = RowsIn l.rows.file.now l.rows.places.now l.rows.n l.initial.area 4096 l.area (l.len * 4096)

@@ -2,7 +2,8 @@
 use mathlib.Core.Path.{◌≡◌, refl, sym, ap, ◌∙◌}
 use mathlib.Core.Logic.{◌⊎◌, ⊎_elim}
 use mathlib.Core.List.{List}
-use Prim.Native.Nat.{ℕ, suc, ◌-◌, ◌*◌, ◌≤◌, ◌<◌}
+use Prim.Native.Nat.{ℕ, ◌+◌, ◌*◌, ◌≤◌}
+use native.Mathlib.Numerals.{add-one}
 use native.Mathlib.Omega.{arith}
 use lib.ListN.{length, drop}
 use lib.Seq.{length-take-le}
@@ -29,43 +30,33 @@ module _ (T : Tables) (n : ℕ) (text entry : List ℕ) where
   abbrev D : Dictionary
   D = dictionary_of file
 
-  -- the steps that are done, where so many of twice the length of the text are left
-  abbrev pub done : ℕ → ℕ
-  done left = 2 * length text - left
-
-  -- what is known with so many steps left; `entry` is the work buffer at the start
-  pub record Running (left : ℕ) (e : BacktrackEncoder) (work alive : List ℕ) : Type 0 where
+  -- what is known after so many steps; `entry` is the work buffer at the start
+  pub record Running (done : ℕ) (e : BacktrackEncoder) (work alive : List ℕ) : Type 0 where
     pub text_ready : TextReady T n text work
     pub ready : EncoderReady file n text e work
     pub kept : length work ≡ length entry
     pub beyond : drop (length text) work ≡ drop (length text) entry
-    pub steps : left ≤ 2 * length text
-    pub shows : Built T n → Shows D text e work alive (run D text (done left) (start D text))
+    pub shows : Built T n → Shows D text e work alive (run D text done (start D text))
 
   pub running-start : (e : BacktrackEncoder) (alive : List ℕ) → TextReady T n text entry
-      → Started file places area n text e → is_set alive ≡ all_set → Running (2 * length text) e entry alive
+      → Started file places area n text e → is_set alive ≡ all_set → Running 0 e entry alive
   running-start e alive Q S a = record {
     text_ready = Q;
     ready = S.ready entry;
     kept = refl;
     beyond = refl;
-    steps = omega arith;
-    shows = λ B.
-        let z : done (2 * length text) ≡ 0 = omega arith in
-        let v : Shows D text e entry alive (run D text 0 (start D text)) = S.built lefts rights prefixes B entry alive a in
-        rw z v;
+    shows = λ B. S.built lefts rights prefixes B entry alive a;
   }
 
-  module _ (left : ℕ) (e : BacktrackEncoder) (work alive : List ℕ) (U : Running left e work alive) where
-    pub running-step : (r : BacktrackEncoder) (work' alive' : List ℕ) → 0 < left
-        → Stepped T n text e work alive r work' alive' → Running (left - 1) r work' alive'
-    running-step r work' alive' some K = record {
+  module _ (done : ℕ) (e : BacktrackEncoder) (work alive : List ℕ) (U : Running done e work alive) where
+    pub running-step : (r : BacktrackEncoder) (work' alive' : List ℕ)
+        → Stepped T n text e work alive r work' alive' → Running (done + 1) r work' alive'
+    running-step r work' alive' K = record {
       text_ready = record { tables = U.text_ready.tables; short = U.text_ready.short; room = let q = U.text_ready.room in let l = K.work_length in omega arith };
       ready = K.ready;
       kept = K.work_length ∙ U.kept;
       beyond = K.work_beyond ∙ U.beyond;
-      steps = let q = U.steps in omega arith;
-      shows = λ B. let q = U.steps in let z : done (left - 1) ≡ suc (done left) = omega arith in rw z (K.built B (done left) (U.shows B));
+      shows = λ B. rw add-one (K.built B done (U.shows B));
     }
 
     -- no more codes than bytes
@@ -73,7 +64,7 @@ module _ (T : Tables) (n : ℕ) (text entry : List ℕ) where
     running-few = count-text file places n U.text_ready.tables.places_ready text e work U.ready
 
     -- the codes at the end
-    pub running-end : Bytes text → (left ≡ 0) ⊎ (e.next ≡ none) → Backtracked T n text entry e.count work
+    pub running-end : Bytes text → (2 * length text ≤ done) ⊎ (e.next ≡ none) → Backtracked T n text entry e.count work
     running-end b o = record {
       few = running-few;
       work_length = U.kept;
@@ -85,11 +76,11 @@ module _ (T : Tables) (n : ℕ) (text entry : List ℕ) where
           sym (stack-codes work e.count (omega arith)) ∙ ap codes (sym (U.shows B).stack) ∙ all B;
     }
       where
-        all : Built T n → codes (run D text (done left) (start D text)).stack ≡ encode D text
+        all : Built T n → codes (run D text done (start D text)).stack ≡ encode D text
         all B = ⊎_elim
-            (λ z. let q = U.steps in run-codes D (lawful-is T n B) text (known T n B text (octets text b)) (done left) (omega arith))
-            (λ z. going_end D text (run D text (done left) (start D text)) (on_the_way T n text B b (done left))
-            (shows-end D text e work alive (run D text (done left) (start D text)) (U.shows B) z))
+            (λ h. run-codes D (lawful-is T n B) text (known T n B text (octets text b)) done h)
+            (λ z. going_end D text (run D text done (start D text)) (on_the_way T n text B b done)
+            (shows-end D text e work alive (run D text done (start D text)) (U.shows B) z))
             o
 
 -- the number of codes

@@ -1,10 +1,11 @@
 -- The lengths of rows on tables in form, and the numbers of an encoder that may be used. Assumes nothing.
-use mathlib.Core.Path.{◌≡◌, refl, sym, ap, ◌∙◌}
+use mathlib.Core.Path.{◌≡◌, sym, ap, ◌∙◌}
 use mathlib.Core.List.{List, [], ◌∷◌}
-use Prim.Native.Nat.{ℕ, zero, suc, ◌-◌, ◌≤◌, ◌<◌}
+use Prim.Native.Nat.{ℕ, ◌-◌, ◌≤◌, ◌<◌}
 use native.Mathlib.Decide.{dec_lt}
 use native.Mathlib.Omega.{arith}
 use lib.ListN.{length, get_or, get_or-eq_default}
+use Rattle.std.proofs.lemmas.List.{get_or_default}
 use Rattle.theory.specs.Parts.{dictionary}
 use Rattle.theory.proofs.Places.{stack-place}
 use Rattle.phrase_file.specs.Form.{rows}
@@ -19,15 +20,10 @@ use Rattle.backtrack_encoder.specs.Encoder.{TextReady, RowsReady, stack_of, Enco
 use Rattle.backtrack_encoder.specs.Steps.{EndsIn}
 use Rattle.backtrack_encoder.proofs.Stack.{stack-length}
 
-default : {A : Type 0} (l : List A) (i : ℕ) (d e : A) → i < length l → get_or l i d ≡ get_or l i e
-default [] i d e h = absurd (omega arith)
-default (x ∷ l) zero d e h = refl
-default (x ∷ l) (suc i) d e h = default l i d e (omega arith)
-
 module _ (file places : List ℕ) (n : ℕ) (P : PlacesReady file places n) where
   bytes-row : (c : ℕ) → c < n → (dictionary_of file).bytes c ≡ get_or (rows file) c []
   unfolding dictionary_of dictionary
-  bytes-row c h = let e = P.count in default (rows file) c ((c - length (rows file)) ∷ []) [] (omega arith)
+  bytes-row c h = let e = P.count in get_or_default (rows file) c ((c - length (rows file)) ∷ []) [] (omega arith)
 
   bytes-other : (c : ℕ) → n ≤ c → (dictionary_of file).bytes c ≡ (c - length (rows file)) ∷ []
   unfolding dictionary_of dictionary

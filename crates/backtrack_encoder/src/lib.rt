@@ -3,7 +3,7 @@
 // document 01 wants output beyond the answer unchanged.
 #![tactic(auto)]
 
-ghost use Rattle.std.specs.Prelude.{◌≡◌, ◌++◌, ◌<◌, ◌≤◌, length, take, drop};
+ghost use Rattle.std.specs.Prelude.{◌≡◌, ◌<◌, ◌≤◌, length};
 ghost use Rattle.marks.specs.Layout.{area_size};
 ghost use Rattle.tables.specs.Tables.{given, lent, pair_lent, before, after};
 ghost use Rattle.tables.specs.Ready.{PlacesReady, PartsReady};
@@ -216,29 +216,15 @@ pub fn backtrack(
 {
     let mut alive = all_set();
     let mut encoder = start(file, places, area, n, text);
-    let mut left = 2 * text.len();
-    while left > 0 {
+    for _done in 0..2 * text.len() {
         if encoder.next == NONE {
             return encoder.count;
         }
         encoder = step(
             file, places, lefts, rights, prefixes, area, n, text, encoder, work, &mut alive,
         );
-        left -= 1;
     }
     encoder.count
-}
-
-// Copies the first `count` codes to the front of the output.
-fn copy_codes(codes: &[u32], count: usize, out: &mut [u32])
-    requires { (count ≤ length codes.now) × (count ≤ length out.old) }
-    ensures { out.new ≡ take count codes.now ++ drop count out.old }
-{
-    let mut i = 0;
-    while i < count {
-        out[i] = codes[i];
-        i += 1;
-    }
 }
 
 // The codes of a text, into the front of the output, and how many.
@@ -259,7 +245,7 @@ pub fn encode_via_backtracking_core(
         n text.now out.old work.old result out.new work.new }
 {
     let count = backtrack(file, places, lefts, rights, prefixes, area, n, text, work);
-    copy_codes(work, count, out);
+    out[..count].copy_from_slice(&work[..count]);
     count
 }
 

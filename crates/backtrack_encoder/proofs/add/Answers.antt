@@ -1,6 +1,4 @@
 -- `backtrack_encoder::add` meets its contract, by `Moves`; there are fewer codes than bytes, by `Sizes`. Assumes nothing.
-use Prim.Native.Nat.{◌<◌}
-use lib.ListN.{length}
 use native.Mathlib.Omega.{arith}
 use Rattle.backtrack_encoder.proofs.Sizes.{count_room}
 use Rattle.backtrack_encoder.proofs.Moves.{add-inside, move_add}
@@ -8,23 +6,23 @@ use Rattle.backtrack_encoder.proofs.add.Goals as goal
 
 pub offset_bounds-work-at : goal.offset_bounds-work-at
 offset_bounds-work-at c =
-    let room : c.args.encoder.count < length c.args.text.now = let p = c.requires in count_room _ _ _ p.rows_ready.places_ready _ _ _ p.encoder_ready.0 _ p.encoder_ready.1.1 in
-    omega (arith, room, c.requires.rows_ready.short)
+    let p = c.requires in
+    omega (arith, count_room _ _ _ p.rows_ready.places_ready _ _ _ p.encoder_ready.0 _ p.encoder_ready.1.1, p.rows_ready.short)
 
 pub bounds-work-at : goal.bounds-work-at
 bounds-work-at c =
-    let room : c.args.encoder.count < length c.args.text.now = let p = c.requires in count_room _ _ _ p.rows_ready.places_ready _ _ _ p.encoder_ready.0 _ p.encoder_ready.1.1 in
-    omega (arith, room, c.requires.rows_ready.room)
+    let p = c.requires in
+    omega (arith, count_room _ _ _ p.rows_ready.places_ready _ _ _ p.encoder_ready.0 _ p.encoder_ready.1.1, p.rows_ready.room)
 
 pub overflow_add-count : goal.overflow_add-count
 overflow_add-count c =
-    let room : c.args.encoder.count < length c.args.text.now = let p = c.requires in count_room _ _ _ p.rows_ready.places_ready _ _ _ p.encoder_ready.0 _ p.encoder_ready.1.1 in
-    omega (arith, room, c.requires.rows_ready.short)
-
-pub next_match-found-requires : goal.next_match-found-requires
-next_match-found-requires c =
     let p = c.requires in
-    record { placed = p.rows_ready.places_ready.placed; area_size_in_bounds = (p.rows_ready.area_room, add-inside _ _ _ _ _ _ _ _ _ _ p.rows_ready p.encoder_ready.0 p.encoder_ready.1.0 p.encoder_ready.1.1 c.wide.ensures c.length_of.ensures) }
+    omega (arith, count_room _ _ _ p.rows_ready.places_ready _ _ _ p.encoder_ready.0 _ p.encoder_ready.1.1, p.rows_ready.short)
+
+pub next_match-found-requires-clause-area_size_in_bounds : goal.next_match-found-requires-clause-area_size_in_bounds
+next_match-found-requires-clause-area_size_in_bounds c =
+    let p = c.requires in
+    (p.rows_ready.area_room, add-inside _ _ _ _ _ _ _ _ _ _ p.rows_ready p.encoder_ready.0 p.encoder_ready.1.0 p.encoder_ready.1.1 c.wide.ensures c.length_of.ensures)
 
 pub returns : goal.returns
 returns c =

@@ -3,7 +3,7 @@ use borrow.Author.Tests.{not-true, not-false}
 use mathlib.Core.Path.{sym, ◌∙◌}
 use native.Mathlib.Omega.{arith}
 use Rattle.backtrack_encoder.proofs.Sizes.{count-text}
-use Rattle.backtrack_encoder.proofs.Fitting.{fits_outside, fits-dead, fits-alone, pair-ready, fits-pair}
+use Rattle.backtrack_encoder.proofs.Fitting.{fits_outside, fits-dead, fits-alone, fits-pair}
 use Rattle.backtrack_encoder.proofs.fits.Goals as goal
 
 pub returns-then-text-end : goal.returns-then-text-end
@@ -20,9 +20,6 @@ offset_bounds-work-at c = omega (arith, count-text _ _ _ c.requires.rows_ready.0
 
 pub bounds-work-at : goal.bounds-work-at
 bounds-work-at c = omega (arith, count-text _ _ _ c.requires.rows_ready.0.places_ready _ _ _ c.requires.encoder_ready.0, c.requires.rows_ready.0.room, c.if-encoder-eq0.false)
-
-pub is_valid_pair-requires : goal.is_valid_pair-requires
-is_valid_pair-requires c = pair-ready _ _ _ _ _ _ c.requires.rows_ready.0 c.requires.rows_ready.1 c.requires.encoder_ready.0 c.requires.encoder_ready.1 c.if-encoder-eq0.false
 
 pub returns : goal.returns
 returns c = fits-pair _ _ _ _ _ _ _ _ _ c.requires.rows_ready.0 c.requires.encoder_ready.0 c.requires.encoder_ready.1 c.wide.ensures c.length_of.ensures _ c.if-text-end.false (sym c.bit_is_set.ensures ∙ not-false _ c.if-not-bit_is_set.false-raw) c.if-encoder-eq0.false c.is_valid_pair.ensures

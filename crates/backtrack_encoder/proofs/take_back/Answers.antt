@@ -1,6 +1,5 @@
 -- `backtrack_encoder::take_back` meets its contract, by the cases of `Moves`. Assumes nothing.
 use native.Mathlib.Omega.{arith}
-use Prim.Native.Nat.{◌-◌}
 use Rattle.backtrack_encoder.proofs.Sizes.{count-text}
 use Rattle.backtrack_encoder.proofs.Moves.{back_none, back_pos, back_last}
 use Rattle.backtrack_encoder.proofs.take_back.Goals as goal
@@ -13,9 +12,6 @@ offset_bounds-work-count c = omega (arith, count-text _ _ _ c.requires.places_re
 
 pub bounds-work-count : goal.bounds-work-count
 bounds-work-count c = omega (arith, count-text _ _ _ c.requires.places_ready.0 _ _ _ c.requires.encoder_ready, c.requires.places_ready.1, c.if-encoder-eq0.false)
-
-pub length_of-requires : goal.length_of-requires
-length_of-requires c = record { placed = c.requires.places_ready.0.placed; c_lt_n = omega (arith, c.wide.ensures.is, c.requires.encoder_ready.codes (c.args.encoder.count - 1) (omega (arith, c.if-encoder-eq0.false))) }
 
 pub overflow_sub-pos : goal.overflow_sub-pos
 overflow_sub-pos c = back_pos _ _ _ _ _ _ _ _ c.requires.places_ready.0 c.requires.encoder_ready c.clear_bit.ensures.bits c.if-encoder-eq0.false _ _ c.wide.ensures c.length_of.ensures

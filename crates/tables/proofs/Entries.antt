@@ -13,38 +13,38 @@ use Rattle.theory.specs.Dictionary.{none}
 use Rattle.tables.specs.InForm.{all_below, prefix_in_form, parts_in_form, row_in_form}
 use Rattle.tables.proofs.Sweeps.{all_same}
 
-module _ (n : ℕ) (size : ℕ → ℕ) (i p prefix : ℕ) (is : prefix ≡ p) where
-  pub prefix-beyond : n ≤ prefix → eqb p none ≡ prefix_in_form n size i p
+module _ (n : ℕ) (size : ℕ → ℕ) (i p : ℕ) where
+  pub prefix-beyond : n ≤ p → eqb p none ≡ prefix_in_form n size i p
   unfolding prefix_in_form
-  prefix-beyond h = rw (le-ltb p n (omega arith), or-false)
+  prefix-beyond h = rw (le-ltb p n h, or-false)
 
-  pub prefix-row : n ≤ 4096 → prefix < n → ltb (size prefix) (size i) ≡ prefix_in_form n size i p
+  pub prefix-row : n ≤ 4096 → p < n → ltb (size p) (size i) ≡ prefix_in_form n size i p
   unfolding prefix_in_form
-  prefix-row few h = rw (← is, ne_eqb prefix none (λ e. omega arith), lt-ltb prefix n h)
+  prefix-row few h = rw (ne_eqb p none (λ e. omega arith), lt-ltb p n h)
 
-module _ (size : ℕ → ℕ) (i l r left right : ℕ) (is-left : left ≡ l) (is_right : right ≡ r) where
-  module _ (h : left < i) where
-    pub right-high : i ≤ right → false ≡ parts_in_form size i l r
+module _ (size : ℕ → ℕ) (i l r : ℕ) where
+  module _ (h : l < i) where
+    pub right-high : i ≤ r → false ≡ parts_in_form size i l r
     unfolding parts_in_form
-    right-high k = rw (← is-left, ← is_right, ne_eqb left i (λ e. omega arith), lt-ltb left i h, le-ltb right i k)
+    right-high k = rw (ne_eqb l i (λ e. omega arith), lt-ltb l i h, le-ltb r i k)
 
-    pub lower-parts : right < i → (a b c : ℕ) → a ≡ size left → b ≡ size right → c ≡ size i → eqb (a + b) c ≡ parts_in_form size i l r
+    pub lower-parts : r < i → eqb (size l + size r) (size i) ≡ parts_in_form size i l r
     unfolding parts_in_form
-    lower-parts k a b c x y z = rw (← is-left, ← is_right, ne_eqb left i (λ e. omega arith), lt-ltb left i h, lt-ltb right i k, x, y, z)
+    lower-parts k = rw (ne_eqb l i (λ e. omega arith), lt-ltb l i h, lt-ltb r i k)
 
-  module _ (h : i ≤ left) where
-    pub left_other : (left ≡ i → ⊥) → false ≡ parts_in_form size i l r
+  module _ (h : i ≤ l) where
+    pub left_other : (l ≡ i → ⊥) → false ≡ parts_in_form size i l r
     unfolding parts_in_form
-    left_other e = rw (← is-left, ← is_right, ne_eqb left i e, le-ltb left i h)
+    left_other e = rw (ne_eqb l i e, le-ltb l i h)
 
-    module _ (e : left ≡ i) where
-      pub right-other : (right ≡ i → ⊥) → false ≡ parts_in_form size i l r
+    module _ (e : l ≡ i) where
+      pub right-other : (r ≡ i → ⊥) → false ≡ parts_in_form size i l r
       unfolding parts_in_form
-      right-other f = rw (← is-left, ← is_right, eq-eqb left i e, ne_eqb right i f, le-ltb left i h)
+      right-other f = rw (eq-eqb l i e, ne_eqb r i f, le-ltb l i h)
 
-      pub row_twice : right ≡ i → eqb (size i) 1 ≡ parts_in_form size i l r
+      pub row_twice : r ≡ i → eqb (size i) 1 ≡ parts_in_form size i l r
       unfolding parts_in_form
-      row_twice f = rw (← is-left, ← is_right, eq-eqb left i e, eq-eqb right i f, le-ltb left i h, or-false)
+      row_twice f = rw (eq-eqb l i e, eq-eqb r i f, le-ltb l i h, or-false)
 
 module _ (n : ℕ) (size : ℕ → ℕ) (lefts rights prefixes : List ℕ) (i : ℕ) where
   pub prefix_out : false ≡ prefix_in_form n size i (get_or prefixes i 0) → row_in_form n size lefts rights prefixes i ≡ false

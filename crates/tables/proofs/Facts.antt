@@ -7,15 +7,15 @@ use native.Mathlib.Omega.{arith}
 use lib.ListN.{length, take}
 use lib.Dec.{leb}
 use borrow.Author.Tests.{le-leb, leb-true}
+use Rattle.std.specs.Result.{result_ok}
+use Rattle.std.proofs.lemmas.Option.{none-some}
+use Rattle.std.specs.Prelude.{Option, Some, None, Result, Ok, Err}
 use Rattle.causes.specs.declared.Cause.{Cause}
-use Rattle.causes.specs.declared.BuildAnswer.{BuildAnswer}
-use Rattle.causes.specs.declared.BuildAnswer.TheVariants.{Rows, Refused}
 use Rattle.phrase_file.specs.Form.{places}
 use Rattle.phrase_file.specs.Checks.{check_of}
 use Rattle.phrase_file.proofs.Checks.{accepted}
 use Rattle.placed_rows.proofs.Beginning.{and_both, no_true, true-false}
 use Rattle.tables.specs.Tables.{Tables}
-use Rattle.tables.specs.declared.Form.{Form}
 use Rattle.theory.specs.Lists.{equal}
 use Rattle.theory.proofs.Lists.{equal_eq}
 use Rattle.tables.specs.InForm.{all_below, is_rows, count, row_size, row_in_form, large_enough, in_form, form_of}
@@ -23,9 +23,12 @@ use Rattle.tables.specs.Steps.{PlacesMatch, sized}
 use Rattle.tables.proofs.Sweeps.{equal-same, all-each, each_all}
 use Rattle.tables.proofs.Entries.{rows_same}
 
+some_none : {A X : Type 0} {x : X} → ◌≡◌ {A = Option X} None (Some x) → A
+some_none {x = x} e = absurd (none-some x e)
+
 -- tables in form, n being the count of rows
 pub record Facts (T : Tables) (n : ℕ) : Type 0 where
-  pub passed : check_of T.file ≡ Rows n
+  pub passed : check_of T.file ≡ Ok n
   pub places_room : n ≤ length T.places
   pub lefts_room : n ≤ length T.lefts
   pub rights_room : n ≤ length T.rights
@@ -34,12 +37,12 @@ pub record Facts (T : Tables) (n : ℕ) : Type 0 where
   pub places_match : take n T.places ≡ places T.file
   pub rows_fit : (i : ℕ) → i < n → row_in_form n (row_size T.file) T.lefts T.rights T.prefixes i ≡ true
 
-rows-passed : (file : List ℕ) → is_rows (check_of file) ≡ true → check_of file ≡ Rows (count file)
+rows-passed : (file : List ℕ) → is_rows (check_of file) ≡ true → check_of file ≡ Ok (count file)
 rows-passed file e = go (check_of file) refl e
   where
-    go : (b : BuildAnswer) → check_of file ≡ b → is_rows b ≡ true → check_of file ≡ Rows (count file)
-    go (Rows n) q t = q ∙ ap Rows (accepted file n q).count
-    go (Refused cause) q t = absurd (true-false (sym t))
+    go : (b : Result ℕ Cause) → check_of file ≡ b → is_rows b ≡ true → check_of file ≡ Ok (count file)
+    go (Ok n) q t = q ∙ ap Ok (accepted file n q).count
+    go (Err cause) q t = absurd (true-false (sym t))
 
 module _ (T : Tables) where
   open T use {file, places as placeTable, lefts, rights, prefixes}
@@ -79,32 +82,44 @@ module _ (T : Tables) where
       ) (each_all _ (count file) f.rows_fit)
 
   module _ (n : ℕ) where
-    pub form-facts : form_of T ≡ Form.Rows n → Facts T n
+    pub form-facts : form_of T ≡ Some n → Facts T n
     unfolding form_of
     form-facts e = go (in_form T) refl e
       where
-        go : (b : Bool) → in_form T ≡ b → cond b (Form.Rows (count file)) Form.Out ≡ Form.Rows n
+        go : (b : Bool) → in_form T ≡ b → cond b (Some (count file)) None ≡ Some n
             → Facts T n
         go true q t = let z : count file ≡ n = cc in rw z at (in_facts q)
         go false q t = let z : ◌≡◌ {A = ℕ} 0 1 = cc in absurd (omega arith)
 
-    pub facts-form : Facts T n → form_of T ≡ Form.Rows n
+    pub facts-form : Facts T n → form_of T ≡ Some n
     unfolding form_of
     facts-form f =
         let z : n ≡ count file = (accepted file n f.passed).count in
         let g : Facts T (count file) = rw (← z) f in
-        rw (facts_in g) (ap Form.Rows (sym z))
+        rw (facts_in g) (ap Some (sym z))
 
     -- where a fact fails
-    pub facts_fail : check_of file ≡ Rows n → (Facts T n → ⊥) → Form.Out ≡ form_of T
+    pub facts_fail : check_of file ≡ Ok n → (Facts T n → ⊥) → form_of T ≡ None
     unfolding form_of
     facts_fail p fail =
         let z : n ≡ count file = (accepted file n p).count in
         rw (no_true (in_form T) (λ e. fail (rw z (in_facts e))))
 
-  pub check-fails : (cause : Cause) → check_of file ≡ Refused cause → Form.Out ≡ form_of T
+  pub check-fails : result_ok (check_of file) ≡ None → form_of T ≡ None
   unfolding form_of in_form
-  check-fails cause e = rw e
+  check-fails e = go (check_of file) refl e
+    where
+      go : (r : Result ℕ Cause) → check_of file ≡ r → result_ok r ≡ None → form_of T ≡ None
+      go (Ok n) q f = some_none (sym f)
+      go (Err cause) q f = rw q
+
+-- the count of rows of a file that passes
+pub passed_of : (file : List ℕ) (n : ℕ) → Some n ≡ result_ok (check_of file) → check_of file ≡ Ok n
+passed_of file n e = go (check_of file) refl e
+  where
+    go : (r : Result ℕ Cause) → check_of file ≡ r → Some n ≡ result_ok r → check_of file ≡ Ok n
+    go (Ok m) q f = let z : m ≡ n = cc in q ∙ ap Ok z
+    go (Err cause) q f = some_none (sym f)
 
 -- what the passes over the places and the rows find
 
@@ -124,3 +139,20 @@ module _ (file placeTable : List ℕ) (n : ℕ) (sizes : List ℕ) (r : Bool) (m
 
     pub rows_lost : b ≡ false → ((i : ℕ) → i < n → row_in_form n (row_size file) lefts rights prefixes i ≡ true) → ⊥
     rows_lost t f = true-false (sym (each_all _ n f) ∙ sym by-file ∙ t)
+
+-- where nothing fails
+pub facts_found : (T : Tables) (n : ℕ) (sizes : List ℕ) (r b : Bool) → check_of T.file ≡ Ok n → n ≤ length T.places → n ≤ length T.lefts
+    → n ≤ length T.rights → n ≤ length T.prefixes → 16384 ≤ length T.area → PlacesMatch T.file T.places n sizes r
+    → b ≡ all_below n (row_in_form n (sized sizes) T.lefts T.rights T.prefixes) → r ≡ true → b ≡ true → form_of T ≡ Some n
+facts_found T n sizes r b passed places_room lefts_room rights_room prefixes_room area_room m q e t =
+    facts-form T n
+    (record {
+      passed = passed;
+      places_room = places_room;
+      lefts_room = lefts_room;
+      rights_room = rights_room;
+      prefixes_room = prefixes_room;
+      area_room = area_room;
+      places_match = places-found T.file T.places n sizes r m e;
+      rows_fit = rows_found T.file T.places n sizes r m T.lefts T.rights T.prefixes b q e t;
+    })

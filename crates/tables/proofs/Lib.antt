@@ -4,4 +4,5 @@ pub mod Entries
 pub mod Matching
 pub mod Facts
 pub mod Readiness
+pub mod Forming
 pub mod Calls

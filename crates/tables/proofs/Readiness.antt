@@ -10,7 +10,7 @@ use lib.ListN.{length, get_or, take, length-take}
 use lib.Seq.{get_or-take}
 use lib.Dec.{ltb, eqb}
 use borrow.Author.Tests.{eq-eqb, eqb-true, lt-ltb, ltb-true}
-use Rattle.causes.specs.declared.BuildAnswer.TheVariants.{Rows}
+use Rattle.std.specs.Prelude.{Option, Some, None, Ok}
 use Rattle.phrase_file.specs.Form.{places}
 use Rattle.phrase_file.specs.Checks.{check_of}
 use Rattle.phrase_file.proofs.Checks.{accepted}
@@ -19,7 +19,6 @@ use Rattle.theory.specs.Dictionary.{none}
 use Rattle.placed_rows.specs.Rows.{row}
 use Rattle.placed_rows.proofs.Beginning.{and_both}
 use Rattle.tables.specs.Tables.{Tables}
-use Rattle.tables.specs.declared.Form.{Form}
 use Rattle.tables.specs.InForm.{row_size, prefix_in_form, parts_in_form, row_in_form, form_of, is_out}
 use Rattle.tables.specs.Ready.{Lower, PartsReady, PlacesReady, PrefixesReady, Ready}
 use Rattle.tables.proofs.Facts.{Facts, form-facts, facts-form}
@@ -120,14 +119,14 @@ module _ (T : Tables) (n : ℕ) where
     prefixes_ready = record { room = f.prefixes_room; shorter = λ c h. prefix_of n (row_size file) c (get_or prefixes c 0) (tests c h).0 }
 
   -- tables in form may be read
-  pub ready : form_of T ≡ Form.Rows n → Ready T n
+  pub ready : form_of T ≡ Some n → Ready T n
   ready e =
       let f = form-facts T n e in
       record { places_ready = places_ready f; parts_ready = parts_ready f; prefixes_ready = prefixes_ready f; area_room = f.area_room }
 
   -- tables of an accepted file are in form if they hold its places and may be read
-  pub is_in_form : check_of file ≡ Rows n → take n placeTable ≡ places file → PartsReady file lefts rights n → PrefixesReady file prefixes n → 16384 ≤ length area
-      → form_of T ≡ Form.Rows n
+  pub is_in_form : check_of file ≡ Ok n → take n placeTable ≡ places file → PartsReady file lefts rights n → PrefixesReady file prefixes n → 16384 ≤ length area
+      → form_of T ≡ Some n
   unfolding row_in_form
   is_in_form p m s t w =
       let a = accepted file n p in
@@ -153,9 +152,9 @@ module _ (T : Tables) (n : ℕ) where
           (eq-or-lt_of_le o)
 
 -- tables that are not out of form are in form, with some n
-pub form-rows : (T : Tables) → is_out (form_of T) ≡ false → (n : ℕ) × (form_of T ≡ Form.Rows n)
+pub form-rows : (T : Tables) → is_out (form_of T) ≡ false → (n : ℕ) × (form_of T ≡ Some n)
 form-rows T e = go (form_of T) refl e
   where
-    go : (f : Form) → form_of T ≡ f → is_out f ≡ false → (n : ℕ) × (form_of T ≡ Form.Rows n)
-    go (Form.Rows n) q _ = (n, q)
-    go Form.Out q z = absurd (let y : ◌≡◌ {A = ℕ} 0 1 = cc in omega arith)
+    go : (f : Option ℕ) → form_of T ≡ f → is_out f ≡ false → (n : ℕ) × (form_of T ≡ Some n)
+    go (Some n) q _ = (n, q)
+    go None q z = absurd (let y : ◌≡◌ {A = ℕ} 0 1 = cc in omega arith)

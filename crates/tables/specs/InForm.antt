@@ -1,14 +1,12 @@
 -- Dictionary tables in form, as document 01 defines it.
-use Rattle.std.specs.Prelude.{List, [], Bool, true, false, cond, ◌&&◌, ◌||◌, ℕ, zero, suc, ◌+◌, length, get_or, take, ltb, leb, eqb}
+use Rattle.std.specs.Prelude.{List, [], Bool, true, false, cond, ◌&&◌, ◌||◌, ℕ, zero, suc, ◌+◌, length, get_or, take, ltb, leb, eqb, Option, None, Some, Result, Ok, Err}
 use Rattle.marks.specs.Layout.{area_size}
-use Rattle.causes.specs.declared.BuildAnswer.{BuildAnswer}
-use Rattle.causes.specs.declared.BuildAnswer.TheVariants.{Rows, Refused}
+use Rattle.causes.specs.declared.Cause.{Cause}
 use Rattle.phrase_file.specs.Form.{places, rows}
 use Rattle.phrase_file.specs.Checks.{check_of}
 use Rattle.theory.specs.Dictionary.{none}
 use Rattle.theory.specs.Lists.{equal}
 use Rattle.tables.specs.Tables.{Tables}
-use Rattle.tables.specs.declared.Form.{Form}
 
 -- whether a test holds of every number below n
 unfoldable pub all_below : ℕ → (ℕ → Bool) → Bool
@@ -16,9 +14,9 @@ all_below zero test = true
 all_below (suc n) test = all_below n test && test n
 
 -- whether the checks 2 to 4 of a file answer with a count of rows
-abbrev pub is_rows : BuildAnswer → Bool
-is_rows (Rows n) = true
-is_rows (Refused cause) = false
+abbrev pub is_rows : Result ℕ Cause → Bool
+is_rows (Ok n) = true
+is_rows (Err cause) = false
 
 -- n: the count of rows
 abbrev pub count : List ℕ → ℕ
@@ -59,10 +57,10 @@ module _ (T : Tables) where
       && all_below (count file) (row_in_form (count file) (row_size file) lefts rights prefixes)))
 
   -- the same as an answer, with n
-  unfoldable pub form_of : Form
-  form_of = cond in_form (Form.Rows (count file)) Form.Out
+  unfoldable pub form_of : Option ℕ
+  form_of = cond in_form (Some (count file)) None
 
 -- tables out of form
-abbrev pub is_out : Form → Bool
-is_out (Form.Rows n) = false
-is_out Form.Out = true
+abbrev pub is_out : Option ℕ → Bool
+is_out (Some n) = false
+is_out None = true

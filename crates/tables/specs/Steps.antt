@@ -1,6 +1,5 @@
 -- What the functions under the check require and ensure.
-use Rattle.std.specs.Prelude.{◌≡◌, List, Bool, true, ℕ, ◌≤◌, ◌<◌, length, get_or, take}
-use Rattle.causes.specs.declared.BuildAnswer.TheVariants.{Rows}
+use Rattle.std.specs.Prelude.{◌≡◌, List, Bool, true, ℕ, ◌≤◌, ◌<◌, length, get_or, take, Ok}
 use Rattle.phrase_file.specs.Form.{places}
 use Rattle.phrase_file.specs.Checks.{check_of}
 use Rattle.theory.specs.Lists.{equal}
@@ -8,7 +7,7 @@ use Rattle.tables.specs.InForm.{row_size}
 
 -- a file of n rows that passes 2 to 4, a table with room for their places, and one for their lengths
 pub record Passed (file placeTable : List ℕ) (n : ℕ) (sizes : List ℕ) : Type 0 where
-  pub passed : check_of file ≡ Rows n
+  pub passed : check_of file ≡ Ok n
   pub room : n ≤ length placeTable
   pub width : length sizes ≡ 4096
 

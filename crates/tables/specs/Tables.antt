@@ -1,7 +1,9 @@
--- The dictionary tables that a call is lent, as one noun, and how a contract says them.
+-- The dictionary tables as one noun, and how a contract says them.
 use Rattle.std.specs.Prelude.{List, ℕ}
 use Rattle.std.specs.Borrow.{Bor, MutBor}
 use denote.Triple.Both.{Both}
+use Rattle.tables.specs.declared.tables.Tables.{Tables as LentTables}
+use Rattle.tables.specs.declared.row_tables.RowTables.{RowTables}
 
 -- "dictionary tables": a phrase file, its four tables and the search area, in the order of the calls' arguments
 pub record Tables : Type 0 where
@@ -47,13 +49,21 @@ without_prefixes T = pair_tables T.file T.places T.lefts T.rights T.area
 abbrev pub with_prefixes : PairTables → List ℕ → Tables
 with_prefixes P prefixes = tables P.file P.places P.lefts P.rights prefixes P.area
 
--- a slice, as a `requires` names it
-abbrev pub Slice : Type 0 → Type 0
-Slice A = Bor (List A)
+-- the tables that a caller lends
+abbrev pub lent : LentTables → Tables
+lent t = tables t.file.now t.places.now t.lefts.now t.rights.now t.prefixes.now t.area.now
 
--- the same at the two moments of a call, as an `ensures` names it
+-- the tables that a function below the public calls is given
+abbrev pub given : RowTables → Tables
+given t = tables t.rows.file.now t.rows.places.now t.lefts.now t.rights.now t.prefixes.now t.area.now
+
+-- the same without the prefixes
+abbrev pub pair_given : RowTables → PairTables
+pair_given t = pair_tables t.rows.file.now t.rows.places.now t.lefts.now t.rights.now t.area.now
+
+-- a slice at the two moments of a call, as an `ensures` names it
 abbrev pub Lent : Type 0 → Type 0
-Lent A = Both (Slice A) (Slice A)
+Lent A = Both (Bor (List A)) (Bor (List A))
 
 -- what stands in a lent slice as the call begins
 abbrev pub before : {A : Type 0} → Lent A → List A
@@ -62,16 +72,6 @@ before s = s.entry.now
 -- what stands in it as the call ends
 abbrev pub after : {A : Type 0} → Lent A → List A
 after s = s.exit.now
-
--- the tables that a call is given: in a `requires`
-abbrev pub given : (file places lefts rights prefixes area : Slice ℕ) → Tables
-given file places lefts rights prefixes area =
-    tables file.now places.now lefts.now rights.now prefixes.now area.now
-
--- the tables that a call was lent, as it begins: in an `ensures`
-abbrev pub lent : (file places lefts rights prefixes area : Lent ℕ) → Tables
-lent file places lefts rights prefixes area =
-    given file.entry places.entry lefts.entry rights.entry prefixes.entry area.entry
 
 -- a slice that is lent to be written, at the two moments of a call
 abbrev pub Filled : Type 0 → Type 0
@@ -86,11 +86,3 @@ lent_to_fill file places lefts rights prefixes area =
 abbrev pub left : (file : Lent ℕ) (places lefts rights prefixes area : Filled ℕ) → Tables
 left file places lefts rights prefixes area =
     tables file.entry.now places.exit.now lefts.exit.now rights.exit.now prefixes.exit.now area.exit.now
-
--- the same for the pair tables
-abbrev pub pair_given : (file places lefts rights area : Slice ℕ) → PairTables
-pair_given file places lefts rights area = pair_tables file.now places.now lefts.now rights.now area.now
-
-abbrev pub pair_lent : (file places lefts rights area : Lent ℕ) → PairTables
-pair_lent file places lefts rights area =
-    pair_given file.entry places.entry lefts.entry rights.entry area.entry

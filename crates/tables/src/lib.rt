@@ -4,32 +4,29 @@
 
 ghost use Rattle.std.specs.Prelude.{◌≡◌, ◌<◌};
 ghost use Rattle.tables.specs.Tables.{lent};
-ghost use Rattle.tables.specs.InForm.{all_below, prefix_in_form, parts_in_form, row_in_form, form_of};
+ghost use Rattle.tables.specs.InForm.{all_below, prefix_in_form, parts_in_form, row_in_form};
+ghost use Rattle.tables.specs.Formed.{FormIs};
 ghost use Rattle.tables.specs.Answers.{NumTokens, TokenLen};
 ghost use Rattle.tables.specs.Steps.{Passed, PlacesMatch, RowOf, Room, sized};
 
-use causes::{Answer, BuildAnswer, Cause};
-use marks::AREA;
-use placed_rows::{NONE, length_of, wide, wide_byte};
+mod row_tables;
+mod tables;
 
-// Whether tables are in form.
-#[derive(Drop)]
-pub enum Form {
-    // The count of rows.
-    Rows(usize),
-    Out,
-}
+use causes::Cause;
+use marks::AREA;
+use placed_rows::{NONE, Rows};
+pub use row_tables::RowTables;
+pub use tables::Tables;
 
 // Whether the places match the file; if so, sizes gets the lengths of the rows.
 fn places_match(file: &[u8], places: &[u32], n: usize, sizes: &mut [u8; 4096]) -> bool
     requires { Passed file.now places.now n sizes.old }
     ensures { PlacesMatch file.now places.now n sizes.new result }
 {
-    let mut at: usize = 0;
-    let mut row: usize = 0;
-    while row < n {
+    let mut at = 0;
+    for row in 0..n {
         // The length byte is read at the table's place, so that no read has to wait for the one before it.
-        let place = wide(places[row]);
+        let place = places[row] as usize;
         if file.len() <= place + 2 {
             return false;
         }
@@ -38,8 +35,7 @@ fn places_match(file: &[u8], places: &[u32], n: usize, sizes: &mut [u8; 4096]) -
             return false;
         }
         sizes[row] = size;
-        at = at + 3 + wide_byte(size);
-        row += 1;
+        at = at + 3 + size as usize;
     }
     true
 }
@@ -49,7 +45,7 @@ fn prefix_in_form(sizes: &[u8; 4096], n: usize, i: usize, p: u32) -> bool
     requires { RowOf n i }
     ensures { result ≡ prefix_in_form n (sized sizes.now) i p }
 {
-    let prefix = wide(p);
+    let prefix = p as usize;
     if n <= prefix {
         return p == NONE;
     }
@@ -61,13 +57,13 @@ fn parts_in_form(sizes: &[u8; 4096], i: usize, l: u32, r: u32) -> bool
     requires { i < 4096 }
     ensures { result ≡ parts_in_form (sized sizes.now) i l r }
 {
-    let left = wide(l);
-    let right = wide(r);
+    let left = l as usize;
+    let right = r as usize;
     if left < i {
         if i <= right {
             return false;
         }
-        return wide_byte(sizes[left]) + wide_byte(sizes[right]) == wide_byte(sizes[i]);
+        return sizes[left] as usize + sizes[right] as usize == sizes[i] as usize;
     }
     if left != i {
         return false;
@@ -84,93 +80,74 @@ fn rows_fit(sizes: &[u8; 4096], lefts: &[u32], rights: &[u32], prefixes: &[u32],
     ensures { result ≡ all_below n (row_in_form n (sized sizes.now) lefts.now
         rights.now prefixes.now) }
 {
-    let mut i: usize = 0;
-    while i < n {
+    for i in 0..n {
         if !parts_in_form(sizes, i, lefts[i], rights[i]) {
             return false;
         }
         if !prefix_in_form(sizes, n, i, prefixes[i]) {
             return false;
         }
-        i += 1;
     }
     true
 }
 
-// Whether the tables are in form, with the count of rows if they are.
-pub fn tables_in_form(
-    file: &[u8],
-    places: &[u32],
-    lefts: &[u32],
-    rights: &[u32],
-    prefixes: &[u32],
-    area: &[u32],
-) -> Form
-    ensures { result ≡ form_of (lent file places lefts rights prefixes area) }
+// The same tables with their rows if they are in form.
+pub fn in_form<'a>(tables: &Tables<'a>) -> Option<RowTables<'a>>
+    ensures { FormIs (lent tables.now) result }
 {
-    let BuildAnswer::Rows(n) = phrase_file::check_file(file) else {
-        return Form::Out;
+    let n = phrase_file::check_file(tables.file).ok()?;
+    if tables.places.len() < n {
+        return None;
+    }
+    if tables.lefts.len() < n {
+        return None;
+    }
+    if tables.rights.len() < n {
+        return None;
+    }
+    if tables.prefixes.len() < n {
+        return None;
+    }
+    if tables.area.len() < AREA {
+        return None;
+    }
+    let mut sizes = [0; 4096];
+    if !places_match(tables.file, tables.places, n, &mut sizes) {
+        return None;
+    }
+    if !rows_fit(&sizes, tables.lefts, tables.rights, tables.prefixes, n) {
+        return None;
+    }
+    let rows = Rows {
+        file: tables.file,
+        places: tables.places,
+        n,
     };
-    if places.len() < n {
-        return Form::Out;
-    }
-    if lefts.len() < n {
-        return Form::Out;
-    }
-    if rights.len() < n {
-        return Form::Out;
-    }
-    if prefixes.len() < n {
-        return Form::Out;
-    }
-    if area.len() < AREA {
-        return Form::Out;
-    }
-    let mut sizes = [0u8; 4096];
-    if !places_match(file, places, n, &mut sizes) {
-        return Form::Out;
-    }
-    if !rows_fit(&sizes, lefts, rights, prefixes, n) {
-        return Form::Out;
-    }
-    Form::Rows(n)
+    Some(RowTables {
+        rows,
+        lefts: tables.lefts,
+        rights: tables.rights,
+        prefixes: tables.prefixes,
+        area: tables.area,
+    })
 }
 
 // The count of rows.
-pub fn num_tokens(
-    file: &[u8],
-    places: &[u32],
-    lefts: &[u32],
-    rights: &[u32],
-    prefixes: &[u32],
-    area: &[u32],
-) -> Answer
-    ensures { NumTokens (lent file places lefts rights prefixes area) result }
+pub fn num_tokens(tables: &Tables<'_>) -> Result<usize, Cause>
+    ensures { NumTokens (lent tables.now) result }
 {
-    match tables_in_form(file, places, lefts, rights, prefixes, area) {
-        Form::Rows(n) => Answer::Number(n),
-        Form::Out => Answer::Refused(Cause::OutOfForm),
-    }
+    let rows = in_form(tables).ok_or(Cause::OutOfForm)?.rows;
+    Ok(rows.n)
 }
 
 // The number of bytes of a row.
-pub fn token_len(
-    file: &[u8],
-    places: &[u32],
-    lefts: &[u32],
-    rights: &[u32],
-    prefixes: &[u32],
-    area: &[u32],
-    token: u32,
-) -> Answer
-    ensures { TokenLen (lent file places lefts rights prefixes area) token result }
+pub fn token_len(tables: &Tables<'_>, token: u32) -> Result<usize, Cause>
+    ensures { TokenLen (lent tables.now) token result }
 {
-    let Form::Rows(n) = tables_in_form(file, places, lefts, rights, prefixes, area) else {
-        return Answer::Refused(Cause::OutOfForm);
-    };
-    let row = wide(token);
-    if n <= row {
-        return Answer::Refused(Cause::UnknownCode(0));
+    let tables = in_form(tables).ok_or(Cause::OutOfForm)?;
+    let row = token as usize;
+    if tables.rows.n <= row {
+        return Err(Cause::UnknownCode(0));
     }
-    Answer::Number(length_of(file, places, n, row))
+    Ok(tables.rows.length_of(row))
 }

@@ -4,18 +4,17 @@ use Rattle.tables.proofs.Entries.{right-high, lower-parts, left_other, right-oth
 use Rattle.tables.proofs.parts_in_form.Goals as goal
 
 pub returns-then-i-right : goal.returns-then-i-right
-returns-then-i-right c = right-high _ _ _ _ _ _ c.wide-left.ensures.is c.wide-right.ensures.is c.if-left-i.true c.if-i-right.true
+returns-then-i-right c = right-high _ _ _ _ c.if-left-i.true c.if-i-right.true
 
 pub returns-then-left-i : goal.returns-then-left-i
 returns-then-left-i c =
-    lower-parts _ _ _ _ _ _ c.wide-left.ensures.is c.wide-right.ensures.is c.if-left-i.true c.if-i-right.false
-    _ _ _ c.wide_byte.ensures.is c.wide_byte-then-left-i.ensures.is c.wide_byte-then-left-i-2.ensures.is
+    lower-parts _ _ _ _ c.if-left-i.true c.if-i-right.false
 
 pub returns-then-left-i-2 : goal.returns-then-left-i-2
-returns-then-left-i-2 c = left_other _ _ _ _ _ _ c.wide-left.ensures.is c.wide-right.ensures.is c.if-left-i.false (search rules)
+returns-then-left-i-2 c = left_other _ _ _ _ c.if-left-i.false (search rules)
 
 pub returns-then-right-i : goal.returns-then-right-i
-returns-then-right-i c = right-other _ _ _ _ _ _ c.wide-left.ensures.is c.wide-right.ensures.is c.if-left-i.false c.if-left-i-2.false (search rules)
+returns-then-right-i c = right-other _ _ _ _ c.if-left-i.false c.if-left-i-2.false (search rules)
 
 pub returns : goal.returns
-returns c = row_twice _ _ _ _ _ _ c.wide-left.ensures.is c.wide-right.ensures.is c.if-left-i.false c.if-left-i-2.false c.if-right-i.false
+returns c = row_twice _ _ _ _ c.if-left-i.false c.if-left-i-2.false c.if-right-i.false

@@ -1,5 +1,5 @@
 -- `places_match` meets its contract: before each row the places passed match the file and the lengths of these rows are written. Assumes nothing.
-use mathlib.Core.Path.{◌∙◌}
+use mathlib.Core.Path.{refl}
 use Prim.Native.Nat.{◌+◌, ◌<◌}
 use native.Mathlib.Omega.{arith}
 use lib.ListN.{get_or, set}
@@ -12,38 +12,35 @@ loop-row-init c = match_start _ _ _ _ c.requires
 
 pub returns-then-file-place : goal.returns-then-file-place
 returns-then-file-place c =
-    let below : c.loop-row.row < c.args.n = omega (arith, c.loop-row-test.true) in
+    let below : c.loop-row.row < c.args.n = omega arith in
     let r = next_row _ _ _ _ c.requires _ _ _ c.loop-row.invariant (below) in
-    match_fails _ _ _ _ c.requires _ _ _ c.loop-row.invariant (below) _ (λ e. omega (arith, r.inside, c.wide-place.ensures.is))
+    match_fails _ _ _ _ c.requires _ _ _ c.loop-row.invariant (below) _ (λ e. omega (arith, r.inside))
 
 pub returns-then-place-at : goal.returns-then-place-at
 returns-then-place-at c =
-    let below : c.loop-row.row < c.args.n = omega (arith, c.loop-row-test.true) in
-    match_fails _ _ _ _ c.requires _ _ _ c.loop-row.invariant (below) _ (λ e. c.if-place-at.true (c.wide-place.ensures.is ∙ e))
+    let below : c.loop-row.row < c.args.n = omega arith in
+    match_fails _ _ _ _ c.requires _ _ _ c.loop-row.invariant (below) _ (λ e. c.if-place-at.true (e))
 
 pub bounds-sizes-row : goal.bounds-sizes-row
 bounds-sizes-row c = let a = accepted _ _ c.requires.passed in omega (arith, a.most)
 
 pub overflow_add-at-in-loop-row : goal.overflow_add-at-in-loop-row
 overflow_add-at-in-loop-row c =
-    let below : c.loop-row.row < c.args.n = omega (arith, c.loop-row-test.true) in
+    let below : c.loop-row.row < c.args.n = omega arith in
     let turn : Matching c.args.file.now c.args.places.now c.args.n
-    (set c.loop-row.sizes c.loop-row.row (get_or c.args.file.now (c.wide-place.result + 2) 0))
-    (c.loop-row.at + 3 + c.wide_byte.result) (c.loop-row.row + 1) = match_more _ _ _ _ c.requires _ _ _ c.loop-row.invariant (below)
-    _ _ c.wide-place.ensures.is c.if-place-at.false c.wide_byte.ensures.is in
+    (set c.loop-row.sizes c.loop-row.row (get_or c.args.file.now (get_or c.args.places.now c.loop-row.row 0 + 2) 0))
+    (c.loop-row.at + 3 + get_or c.args.file.now (get_or c.args.places.now c.loop-row.row 0 + 2) 0) (c.loop-row.row + 1) = match_more _ _ _ _ c.requires _ _ _ c.loop-row.invariant (below)
+    _ _ refl c.if-place-at.false refl in
     omega (arith, (turn).inside)
-
-pub loop-row-smaller : goal.loop-row-smaller
-loop-row-smaller c = omega arith
 
 pub loop-row-preserved : goal.loop-row-preserved
 loop-row-preserved c =
-    let below : c.loop-row.row < c.args.n = omega (arith, c.loop-row-test.true) in
+    let below : c.loop-row.row < c.args.n = omega arith in
     let turn : Matching c.args.file.now c.args.places.now c.args.n
-    (set c.loop-row.sizes c.loop-row.row (get_or c.args.file.now (c.wide-place.result + 2) 0))
-    (c.loop-row.at + 3 + c.wide_byte.result) (c.loop-row.row + 1) = match_more _ _ _ _ c.requires _ _ _ c.loop-row.invariant (below)
-    _ _ c.wide-place.ensures.is c.if-place-at.false c.wide_byte.ensures.is in
+    (set c.loop-row.sizes c.loop-row.row (get_or c.args.file.now (get_or c.args.places.now c.loop-row.row 0 + 2) 0))
+    (c.loop-row.at + 3 + get_or c.args.file.now (get_or c.args.places.now c.loop-row.row 0 + 2) 0) (c.loop-row.row + 1) = match_more _ _ _ _ c.requires _ _ _ c.loop-row.invariant (below)
+    _ _ refl c.if-place-at.false refl in
     turn
 
 pub returns : goal.returns
-returns c = match_done _ _ _ _ c.requires _ _ _ c.loop-row.invariant c.loop-row-test.false
+returns c = match_done _ _ _ _ c.requires _ _ _ c.loop-row.invariant (omega arith)

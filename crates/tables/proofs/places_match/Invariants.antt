@@ -1,10 +1,6 @@
 -- `places_match` meets its contract: before each row the places passed match the file and the lengths of these rows are written. Assumes nothing.
-use Prim.Native.Nat.{◌-◌}
 use Rattle.tables.proofs.Matching.{Matching}
 use Rattle.tables.proofs.places_match.Given as goal
 
 abbrev pub invariant-loop-row : goal.invariant-loop-row
 invariant-loop-row l = Matching l.file l.places l.n l.sizes l.at l.row
-
-abbrev pub decreases-loop-row : goal.decreases-loop-row
-decreases-loop-row l = l.n - l.row

@@ -3,7 +3,7 @@ use Rattle.tables.proofs.Entries.{prefix-beyond, prefix-row}
 use Rattle.tables.proofs.prefix_in_form.Goals as goal
 
 pub returns-then-n-prefix : goal.returns-then-n-prefix
-returns-then-n-prefix c = prefix-beyond _ _ _ _ _ c.wide-prefix.ensures.is c.if-n-prefix.true
+returns-then-n-prefix c = prefix-beyond _ _ _ _ c.if-n-prefix.true
 
 pub returns : goal.returns
-returns c = prefix-row _ _ _ _ _ c.wide-prefix.ensures.is c.requires.few c.if-n-prefix.false
+returns c = prefix-row _ _ _ _ c.requires.few c.if-n-prefix.false

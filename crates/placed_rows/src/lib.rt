@@ -36,29 +36,16 @@ pub fn wide_byte(b: u8) -> usize
 pub fn begins_with(p: &[u8], t: &[u8]) -> bool
     ensures { result ≡ begins p.now t.now }
 {
-    if t.len() < p.len() {
-        return false;
-    }
-    let mut j = 0;
-    while j < p.len() {
-        if p[j] != t[j] {
-            return false;
-        }
-        j += 1;
-    }
-    true
+    t.starts_with(p)
 }
 
 // Does p begin t, both read from the front or both from the back?
 pub fn begins_facing(p: &[u8], t: &[u8], back: bool) -> bool
     ensures { result ≡ begins (facing back p.now) (facing back t.now) }
 {
-    if t.len() < p.len() {
-        return false;
-    }
     if back {
-        let at = t.len() - p.len();
-        return begins_with(p, &t[at..]);
+        t.ends_with(p)
+    } else {
+        begins_with(p, t)
     }
-    begins_with(p, t)
 }

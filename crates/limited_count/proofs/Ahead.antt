@@ -1,13 +1,12 @@
 -- 64 places ahead, and text left behind them. Assumes nothing.
-use mathlib.Core.Path.{sym, ap}
+use mathlib.Core.Path.{ap}
 use mathlib.Core.List.{List}
-use mathlib.Core.Bool.{Bool, false}
+use mathlib.Core.Bool.{Bool}
 use Prim.Native.Nat.{ℕ, ◌+◌, ◌*◌, ◌≤◌, ◌<◌}
 use native.Mathlib.Omega.{arith}
 use lib.ListN.{length, get_or, take}
 use lib.Seq.{take-take, length-take-le}
 use Rattle.theory.specs.Merge.{encode}
-use Rattle.theory.proofs.Lists.{true-false}
 use Rattle.theory.proofs.Over.{all_of_last}
 use Rattle.tables.specs.Tables.{PairTables, with_prefixes}
 use Rattle.built_tables.specs.Built.{dictionary_of}
@@ -17,9 +16,6 @@ use Rattle.backtrack_encoder.specs.declared.BacktrackEncoder.{BacktrackEncoder}
 use Rattle.limited_count.specs.Stops.{ManyReady, ManyIs, AheadReady, OverIs}
 
 module _ (P : PairTables) (n : ℕ) (text : List ℕ) where
-  pub over-not : (limit : ℕ) → OverIs P n text limit false
-  over-not limit = record { over = λ y. absurd (true-false (sym y)) }
-
   module _ (e : BacktrackEncoder) (limit : ℕ) (R : AheadReady P n text e limit) (h : 8 * (e.pos + 64) ≤ length text) where
     pub many-ready : ManyReady P n (take (e.pos + 64) text)
     many-ready = record { is_in_form = R.is_in_form; few = omega (arith, R.short, length-take-le (e.pos + 64) text (omega arith)) }

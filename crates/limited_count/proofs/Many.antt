@@ -2,7 +2,7 @@
 use mathlib.Core.Path.{◌≡◌, refl, sym, ap, ◌∙◌}
 use mathlib.Core.Logic.{⊎_elim}
 use mathlib.Core.List.{List, [], ◌∷◌}
-use mathlib.Core.Bool.{true, false}
+use mathlib.Core.Bool.{true}
 use Prim.Native.Nat.{ℕ, suc, ◌+◌, ◌-◌, ◌≤◌, ◌<◌}
 use native.Mathlib.Nat.{eq-or-lt_of_le}
 use native.Mathlib.Numerals.{add-one}
@@ -13,7 +13,7 @@ use Rattle.theory.specs.Dictionary.{Dictionary}
 use Rattle.theory.specs.Merge.{encode}
 use Rattle.theory.specs.Table.{last_code}
 use Rattle.theory.specs.Typing.{append, code_at}
-use Rattle.theory.proofs.Lists.{true-false, lt_or_ge}
+use Rattle.theory.proofs.Lists.{lt_or_ge}
 use Rattle.theory.proofs.Encode.{encode-nil}
 use Rattle.theory.proofs.Table.{last-at, code_at_last_code}
 use Rattle.tables.specs.Tables.{PairTables, with_prefixes}
@@ -49,7 +49,7 @@ module _ (P : PairTables) (n : ℕ) (text : List ℕ) (limit : ℕ) where
     pub rows : RowsTo n codes i
     pub small : (j : ℕ) → j ≤ i → get_or counts j 0 ≤ j
     pub few : many ≤ i
-    pub codes_are : (prefixes : List ℕ) → Built (with_prefixes P prefixes) n → CodesTo file true text codes i
+    pub codes_are : (prefixes : List ℕ) → Built (with_prefixes P prefixes) n → CodesTo file append text codes i
     pub counts_are : (prefixes : List ℕ) → Built (with_prefixes P prefixes) n
         → (j : ℕ) → j ≤ i → get_or counts j 0 ≡ length (encode D (take j text))
     pub many_are : (prefixes : List ℕ) → Built (with_prefixes P prefixes) n → ManyCodes file text limit i many
@@ -86,7 +86,7 @@ module _ (P : PairTables) (n : ℕ) (text : List ℕ) (limit : ℕ) where
       before = record { room = omega (arith, C.codes_size, C.fits); rows = C.rows };
     }
 
-    module _ (h : i < length text) (code : ℕ) (K : CodeIs P true n text i codes code) where
+    module _ (h : i < length text) (code : ℕ) (K : CodeIs P append n text i codes code) where
       pub code-ready : RowReady file places n code
       code-ready = record { places_ready = C.is_in_form.places_ready; row = K.row }
 
@@ -156,6 +156,3 @@ module _ (P : PairTables) (n : ℕ) (text : List ℕ) (limit : ℕ) where
                     each (λ j v. v ≡ length (encode D (take j text))) (C.counts_are prefixes B) (count_is prefixes B);
                 many_are = are;
               }
-
-pub many-not : (P : PairTables) (n : ℕ) (text : List ℕ) (limit : ℕ) → ManyIs P n text limit false
-many-not P n text limit = record { many = λ e. absurd (true-false (sym e)) }

@@ -13,7 +13,7 @@ use Rattle.theory.specs.Dictionary.{Dictionary, spell}
 use Rattle.theory.specs.Merge.{encode}
 use Rattle.theory.specs.PairCheck.{passes}
 use Rattle.theory.specs.Backtracking.{State, codes, place}
-use Rattle.theory.proofs.Lists.{true-false, and_both}
+use Rattle.theory.proofs.Lists.{and_both}
 use Rattle.theory.proofs.RowsAt.{filled}
 use Rattle.theory.proofs.Neighbours.{spell_snoc}
 use Rattle.theory.proofs.Backtracking.{Going, place_is}
@@ -27,7 +27,7 @@ use Rattle.built_tables.proofs.InForm.{ready}
 use Rattle.backtrack_encoder.specs.declared.BacktrackEncoder.{BacktrackEncoder}
 use Rattle.backtrack_encoder.specs.Encoder.{EncoderReady, Shows}
 use Rattle.backtrack_encoder.proofs.Stack.{stack-length}
-use Rattle.limited_count.specs.Stops.{stays_at, StaysIf}
+use Rattle.limited_count.specs.Stops.{stays_at}
 
 -- the cases of the test
 module _ (area text : List ℕ) (pos : ℕ) where
@@ -45,12 +45,6 @@ module _ (area text : List ℕ) (pos : ℕ) where
   pub stays-seam : (b : Bool) → pos < length text → (pos ≡ 0 → ⊥) → b ≡ seam_marked → not b ≡ stays_at area text pos
   unfolding stays_at
   stays-seam b h z e = rw e (sym (rw (lt-ltb pos (length text) h, ne_eqb pos 0 z, stays_at)))
-
-  pub stays-not : StaysIf area text pos false
-  stays-not = record { stays = λ y. absurd (true-false (sym y)) }
-
-  pub stays-asked : (r : Bool) → r ≡ stays_at area text pos → StaysIf area text pos r
-  stays-asked r e = record { stays = λ y. sym e ∙ y }
 
   stays-left : stays_at area text pos ≡ true → pos < length text
   unfolding stays_at

@@ -15,25 +15,18 @@ ghost use Rattle.limited_count.specs.Stops.{OverIs};
 
 use backtrack_encoder::{BacktrackEncoder, start, step};
 use bitfield::all_set;
-use end_code::{bytes_before, end_code_at};
+use end_code::{Side, bytes_before, end_code_at};
 use pair_check::may_join;
 use placed_rows::NONE;
 
-// The answer of a count with a limit.
-#[derive(Clone, Copy)]
-pub enum Limited {
-    Counted(usize),
-    Over,
-}
-
-// The answer for a final count.
-fn within(count: usize, limit: u64) -> Limited
+// The answer for a final count: the count, or None for "over".
+fn within(count: usize, limit: u64) -> Option<usize>
     ensures { limited_of result ≡ final limit count }
 {
     if limit < count as u64 {
-        Limited::Over
+        None
     } else {
-        Limited::Counted(count)
+        Some(count)
     }
 }
 
@@ -57,10 +50,8 @@ fn stay_now(area: &[u32], text: &[u8], pos: usize, asked: usize) -> bool
     requires { area_size ≤ length area.now }
     ensures { StaysIf area.now text.now pos result }
 {
-    if 64 < asked {
-        if asked % 8 != 0 {
-            return false;
-        }
+    if 64 < asked && asked % 8 != 0 {
+        return false;
     }
     codes_stay(area, text, pos)
 }
@@ -91,13 +82,22 @@ fn have_many_codes(
     let mut codes = [0u32; 512];
     let mut counts = [0u32; 513];
     let mut many = 0;
-    let mut i = 0;
-    while i < text.len() {
-        let code = end_code_at(file, places, lefts, rights, area, n, text, i, &codes, true);
+    for i in 0..text.len() {
+        let code = end_code_at(
+            file,
+            places,
+            lefts,
+            rights,
+            area,
+            n,
+            text,
+            i,
+            &codes,
+            Side::Append,
+        );
         codes[i] = code;
-        i += 1;
-        let count = counts[bytes_before(file, places, n, i, code)] + 1;
-        counts[i] = count;
+        let count = counts[bytes_before(file, places, n, i + 1, code)] + 1;
+        counts[i + 1] = count;
         many = one_more(many, count, limit);
         if many == 64 {
             return true;
@@ -133,7 +133,7 @@ fn is_over_ahead(
     have_many_codes(file, places, lefts, rights, area, n, &text[..end], limit)
 }
 
-// The number of codes of a text, or "over".
+// The number of codes of a text, or None for "over".
 pub fn count_till_limit_core(
     file: &[u8],
     places: &[u32],
@@ -145,7 +145,7 @@ pub fn count_till_limit_core(
     text: &[u8],
     limit: u64,
     work: &mut [u32],
-) -> Limited
+) -> Option<usize>
     requires { TextReady (given file places lefts rights prefixes area) n text.now work.old }
     ensures { LimitedIs (lent file places lefts rights prefixes area)
         n text.now limit work.old result work.new }
@@ -153,26 +153,24 @@ pub fn count_till_limit_core(
     let mut alive = all_set();
     let mut encoder = start(file, places, area, n, text);
     let mut asked = 0usize;
-    let mut left = 2 * text.len();
-    while left > 0 {
+    for _done in 0..2 * text.len() {
         if encoder.next == NONE {
             return within(encoder.count, limit);
         }
         if limit <= encoder.count as u64 {
             if stay_now(area, text, encoder.pos, asked) {
-                return Limited::Over;
+                return None;
             }
             asked += 1;
-            if asked == 64 {
-                if is_over_ahead(file, places, lefts, rights, area, n, text, encoder, limit) {
-                    return Limited::Over;
-                }
+            if asked == 64
+                && is_over_ahead(file, places, lefts, rights, area, n, text, encoder, limit)
+            {
+                return None;
             }
         }
         encoder = step(
             file, places, lefts, rights, prefixes, area, n, text, encoder, work, &mut alive,
         );
-        left -= 1;
     }
     within(encoder.count, limit)
 }

@@ -3,6 +3,7 @@ pub mod Sweeps
 pub mod Entries
 pub mod Matching
 pub mod Facts
+pub mod Placing
 pub mod Readiness
 pub mod Forming
 pub mod Calls

@@ -1,5 +1,5 @@
 -- Tables in form may be read by the functions over them, and tables that build fills so are in form. Assumes nothing.
-use mathlib.Core.Path.{◌≡◌, refl, sym, ap, ◌∙◌}
+use mathlib.Core.Path.{◌≡◌, refl, sym, ap}
 use mathlib.Core.List.{List}
 use mathlib.Core.Bool.{Bool, true, false, ◌&&◌, ◌||◌, or-true}
 use mathlib.Core.Logic.{◌⊎◌, inl, inr, ⊎_elim}
@@ -7,7 +7,6 @@ use Prim.Native.Nat.{ℕ, ◌+◌, ◌≤◌, ◌<◌}
 use native.Mathlib.Nat.{eq-or-lt_of_le}
 use native.Mathlib.Omega.{arith}
 use lib.ListN.{length, get_or, take, length-take}
-use lib.Seq.{get_or-take}
 use lib.Dec.{ltb, eqb}
 use borrow.Author.Tests.{eq-eqb, eqb-true, lt-ltb, ltb-true}
 use Rattle.std.specs.Prelude.{Option, Some, None, Ok}
@@ -16,11 +15,11 @@ use Rattle.phrase_file.specs.Checks.{check_of}
 use Rattle.phrase_file.proofs.Checks.{accepted}
 use Rattle.phrase_file.proofs.Rows.{RowIs, row_is}
 use Rattle.theory.specs.Dictionary.{none}
-use Rattle.placed_rows.specs.Rows.{row}
 use Rattle.placed_rows.proofs.Beginning.{and_both}
 use Rattle.tables.specs.Tables.{Tables}
 use Rattle.tables.specs.InForm.{row_size, prefix_in_form, parts_in_form, row_in_form, form_of, is_out}
-use Rattle.tables.specs.Ready.{Lower, PartsReady, PlacesReady, PrefixesReady, Ready}
+use Rattle.tables.specs.Ready.{Lower, PartsReady, PrefixesReady, Ready}
+use Rattle.tables.proofs.Placing.{places_ready}
 use Rattle.tables.proofs.Facts.{Facts, form-facts, facts-form}
 
 -- the tests of a row and what they say
@@ -74,26 +73,6 @@ module _ (T : Tables) (n : ℕ) where
     row-facts : (c : ℕ) → c < n → RowIs file c
     row-facts c h = row_is file c (omega (arith, (accepted file n f.passed).count))
 
-    same_place : (c : ℕ) → c < n → get_or placeTable c 0 ≡ get_or (places file) c 0
-    same_place c h = sym (get_or-take n placeTable c 0 h) ∙ ap (λ (l : List ℕ). get_or l c 0) f.places_match
-
-    places_ready : PlacesReady file placeTable n
-    unfolding row
-    places_ready =
-        let a = accepted file n f.passed in
-        record {
-          count = a.count;
-          least = a.least;
-          placed = record {
-            few = a.most;
-            places_fit = f.places_room;
-            inside = λ c h. let r = row-facts c h in rw (same_place c h) (omega (arith, r.inside, r.size));
-          };
-          rows_are = λ c h. rw (lt-ltb c n h, row, same_place c h) (sym (row-facts c h).bytes);
-          filled = λ c h. (row-facts c h).some;
-          short = λ c h. (row-facts c h).most;
-        }
-
     tests : (c : ℕ) → c < n
         → (prefix_in_form n (row_size file) c (get_or prefixes c 0) ≡ true) × (parts_in_form (row_size file) c (get_or lefts c 0) (get_or rights c 0) ≡ true)
     unfolding row_in_form
@@ -122,7 +101,7 @@ module _ (T : Tables) (n : ℕ) where
   pub ready : form_of T ≡ Some n → Ready T n
   ready e =
       let f = form-facts T n e in
-      record { places_ready = places_ready f; parts_ready = parts_ready f; prefixes_ready = prefixes_ready f; area_room = f.area_room }
+      record { places_ready = places_ready file placeTable n f.passed f.places_match; parts_ready = parts_ready f; prefixes_ready = prefixes_ready f; area_room = f.area_room }
 
   -- tables of an accepted file are in form if they hold its places and may be read
   pub is_in_form : check_of file ≡ Ok n → take n placeTable ≡ places file → PartsReady file lefts rights n → PrefixesReady file prefixes n → 16384 ≤ length area

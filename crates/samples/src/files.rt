@@ -1,71 +1,69 @@
-// Commands that write the phrase file.
-use crate::fields::{rest, unescape};
-use crate::names::{AGAIN, EMPTY, LETTERS, PAIRS, RAW, ROW};
-use words::put;
+// The phrase file that a script writes.
+use crate::fields::Unescaped;
+use std::alloc::{AllocError, Global};
 
-// A mark and a length byte.
-fn put_mark(file: &mut [u8], at: usize, size: u8) -> usize {
-    let mut end = put(file, at, 0xc7);
-    end = put(file, end, 0x51);
-    put(file, end, size)
+// How many bytes there is room for: more than a phrase file may have.
+const ROOM: usize = 66000;
+
+// The bytes of a phrase file. Bytes for which there is no room are left out.
+#[derive(Drop)]
+pub(crate) struct PhraseFile {
+    pub(crate) bytes: Vec<u8>,
 }
 
-// A row of one or two bytes that writes a number, the high byte first.
-fn put_number(file: &mut [u8], at: usize, size: u8, k: usize) -> usize {
-    let end = put_mark(file, at, size);
-    if size == 1 {
-        return put(file, end, (k % 256) as u8);
+impl PhraseFile {
+    pub(crate) fn new(alloc: Global) -> Self {
+        PhraseFile {
+            bytes: Vec::new(alloc),
+        }
     }
-    let next = put(file, end, (k / 256 % 256) as u8);
-    put(file, next, (k % 256) as u8)
-}
 
-// So many of these rows, from 0 on.
-fn put_numbers(file: &mut [u8], at: usize, size: u8, count: usize) -> usize {
-    let mut end = at;
-    for k in 0..count {
-        end = put_number(file, end, size, k);
+    pub(crate) fn clear(&mut self) {
+        self.bytes.clear();
     }
-    end
-}
 
-// A row of escaped bytes: the length byte is written again once the bytes are counted.
-fn put_row(file: &mut [u8], at: usize, line: &[u8]) -> usize {
-    let from = put_mark(file, at, 0);
-    let end = unescape(line, file, from);
-    put_mark(file, at, (end.wrapping_sub(from) % 256) as u8);
-    end
-}
+    // Adds escaped bytes as they are, with no mark.
+    pub(crate) fn put(&mut self, line: &[u8]) -> Result<(), AllocError> {
+        let room = ROOM.saturating_sub(self.bytes.len());
+        self.bytes.extend(Unescaped(line).take(room))
+    }
 
-// The same row so many times.
-fn put_rows(file: &mut [u8], at: usize, line: &[u8], count: usize) -> usize {
-    let mut end = at;
-    for _ in 0..count {
-        end = put_row(file, end, line);
+    // Adds bytes.
+    fn put_all(&mut self, bytes: &[u8]) -> Result<(), AllocError> {
+        let room = ROOM.saturating_sub(self.bytes.len());
+        self.bytes.extend(bytes.iter().copied().take(room))
     }
-    end
-}
 
-// The file after a command: `empty`, `letters COUNT`, `pairs COUNT`, `row BYTES`, `again TIMES BYTES`, `raw BYTES`. The
-// size stays where the command is another one.
-pub(crate) fn write(command: usize, line: &[u8], file: &mut [u8], size: usize) -> usize {
-    if command == EMPTY {
-        return 0;
+    // Adds so many rows of one byte: 0, 1, 2, ..
+    pub(crate) fn put_letters(&mut self, count: usize) -> Result<(), AllocError> {
+        for k in 0..count {
+            let [.., low] = k.to_be_bytes();
+            self.put_all(&[0xc7, 0x51, 1, low])?;
+        }
+        Ok(())
     }
-    if command == LETTERS {
-        return put_numbers(file, size, 1, crate::fields::size(line));
+
+    // Adds so many rows of two bytes: 0 0, 0 1, ..
+    pub(crate) fn put_pairs(&mut self, count: usize) -> Result<(), AllocError> {
+        for k in 0..count {
+            let [.., high, low] = k.to_be_bytes();
+            self.put_all(&[0xc7, 0x51, 2, high, low])?;
+        }
+        Ok(())
     }
-    if command == PAIRS {
-        return put_numbers(file, size, 2, crate::fields::size(line));
+
+    // Adds a row of escaped bytes so many times. The length byte is written once the bytes are counted.
+    pub(crate) fn put_rows(&mut self, line: &[u8], count: usize) -> Result<(), AllocError> {
+        for _ in 0..count {
+            let length_at = self.bytes.len() + 2;
+            self.put_all(&[0xc7, 0x51, 0])?;
+            let from = self.bytes.len();
+            self.put(line)?;
+            let [.., low] = self.bytes.len().saturating_sub(from).to_be_bytes();
+            if let Some(length) = self.bytes.get_mut(length_at) {
+                *length = low;
+            }
+        }
+        Ok(())
     }
-    if command == ROW {
-        return put_row(file, size, line);
-    }
-    if command == AGAIN {
-        return put_rows(file, size, rest(line), crate::fields::size(line));
-    }
-    if command == RAW {
-        return unescape(line, file, size);
-    }
-    size
 }

@@ -1,0 +1,117 @@
+// The tables and the search area: lent to a build and to the calls after it.
+use crate::buffers::Buffer;
+use crate::fields::{entry, size, split_word};
+use causes::BuildAnswer;
+use placed_rows::NONE;
+use std::alloc::{AllocError, Global};
+use std::io;
+
+// How many numbers of the search area a build fills.
+const AREA: usize = 16384;
+
+// The tables and the search area.
+#[derive(Drop)]
+pub(crate) struct Lists {
+    pub(crate) places: Buffer<u32>,
+    pub(crate) lefts: Buffer<u32>,
+    pub(crate) rights: Buffer<u32>,
+    pub(crate) prefixes: Buffer<u32>,
+    pub(crate) area: Buffer<u32>,
+}
+
+impl Lists {
+    pub(crate) fn new(alloc: Global) -> Result<Self, AllocError> {
+        Ok(Lists {
+            places: Buffer::new(alloc, 4200)?,
+            lefts: Buffer::new(alloc, 4200)?,
+            rights: Buffer::new(alloc, 4200)?,
+            prefixes: Buffer::new(alloc, 4200)?,
+            area: Buffer::new(alloc, 16400)?,
+        })
+    }
+
+    // Lends all of each.
+    pub(crate) fn lend_all(&mut self) {
+        self.places.lend_all();
+        self.lefts.lend_all();
+        self.rights.lend_all();
+        self.prefixes.lend_all();
+        self.area.lend_all();
+    }
+
+    // `set TABLE ENTRY VALUE`: writes an entry of a table, if it has such an entry.
+    pub(crate) fn set(&mut self, arguments: &[u8]) {
+        let (name, left) = split_word(arguments);
+        let (_, value) = split_word(left);
+        match name {
+            b"places" => self.places.put(size(left), entry(value)),
+            b"lefts" => self.lefts.put(size(left), entry(value)),
+            b"rights" => self.rights.put(size(left), entry(value)),
+            b"prefixes" => self.prefixes.put(size(left), entry(value)),
+            _ => {}
+        }
+    }
+
+    // `build FACTOR`, over buffers that hold canaries.
+    pub(crate) fn build(&mut self, rt: &impl Print, file: &[u8], factor: u64) -> io::Result<()> {
+        self.places.fill();
+        self.lefts.fill();
+        self.rights.fill();
+        self.prefixes.fill();
+        self.area.fill();
+        let answer = dictionary::from_dictionary(
+            file,
+            factor,
+            self.places.lent_mut(),
+            self.lefts.lent_mut(),
+            self.rights.lent_mut(),
+            self.prefixes.lent_mut(),
+            self.area.lent_mut(),
+        );
+        let number = causes::build_answer_number(answer);
+        let place = causes::build_answer_place(answer);
+        let n = count_rows(file);
+        let places = state(&self.places, n);
+        let lefts = state(&self.lefts, n);
+        let rights = state(&self.rights, n);
+        let prefixes = state(&self.prefixes, n);
+        let area = state(&self.area, AREA);
+        println!(rt; " {number} {place} {places} {lefts} {rights} {prefixes} {area}")
+    }
+
+    // `entries ROW`: its place, left part, right part and prefix, 0 beyond a table.
+    pub(crate) fn say_entries(&self, rt: &impl Print, row: usize) -> io::Result<()> {
+        let place = at(&self.places, row);
+        let left = at(&self.lefts, row);
+        let right = at(&self.rights, row);
+        let prefix = at(&self.prefixes, row);
+        println!(rt; " {row} {place} {left} {right} {prefix}")
+    }
+}
+
+// An entry of a table, 0 beyond it.
+fn at(table: &Buffer<u32>, row: usize) -> u32 {
+    table.items.get(row).copied().unwrap_or(0)
+}
+
+// The count of rows of a file, 0 if its form is refused.
+fn count_rows(file: &[u8]) -> usize {
+    match phrase_file::check_file(file) {
+        BuildAnswer::Rows(n) => n,
+        BuildAnswer::Refused(_) => 0,
+    }
+}
+
+// What a build did to a buffer of which it fills the first n numbers.
+fn state(buffer: &Buffer<u32>, n: usize) -> &'static str {
+    if buffer.is_kept(0) {
+        return "unchanged";
+    }
+    if !buffer.is_kept(n) {
+        return "written beyond";
+    }
+    if buffer.front(n).iter().all(|number| *number == NONE) {
+        return "none";
+    }
+    "filled"
+}

@@ -1,0 +1,28 @@
+// What is printed of the answers of calls.
+use causes::Answer;
+use std::io;
+
+// The number and the place of an answer.
+pub(crate) fn say_answer(rt: &impl Print, answer: Answer) -> io::Result<()> {
+    let number = causes::answer_number(answer);
+    let place = causes::answer_place(answer);
+    print!(rt; " {number} {place}")
+}
+
+// The codes that an encoder wrote.
+pub(crate) fn say_codes(rt: &impl Print, codes: &[u32]) -> io::Result<()> {
+    print!(rt; ":")?;
+    for code in codes {
+        print!(rt; " {code}")?;
+    }
+    Ok(())
+}
+
+// Whether the buffers beyond what the call may write are as before.
+pub(crate) fn say_kept(rt: &impl Print, as_before: bool) -> io::Result<()> {
+    if as_before {
+        println!(rt; "; the rest as before")
+    } else {
+        println!(rt; "; WRITTEN BEYOND")
+    }
+}

@@ -1,0 +1,320 @@
+// What a script has set, and its commands.
+use crate::buffers::Buffer;
+use crate::commands::{Call, Setting};
+use crate::fields::{Unescaped, entry, number, size, split_word};
+use crate::files::PhraseFile;
+use crate::lists::Lists;
+use crate::saying::{say_answer, say_codes, say_kept};
+use causes::Answer;
+use std::alloc::{AllocError, Global};
+use std::io;
+
+// How many bytes of a text and how many codes there is room for: more than a call takes.
+const ROOM: usize = 4200;
+
+// The phrase file, the tables, the text and the codes, and the buffers that calls write to.
+#[derive(Drop)]
+pub(crate) struct Script {
+    file: PhraseFile,
+    lists: Lists,
+    text: Vec<u8>,
+    codes: Vec<u32>,
+    output: Buffer<u32>,
+    work: Buffer<u32>,
+    bytes: Buffer<u8>,
+}
+
+impl Script {
+    pub(crate) fn new(alloc: Global) -> Result<Self, AllocError> {
+        Ok(Script {
+            file: PhraseFile::new(alloc),
+            lists: Lists::new(alloc)?,
+            text: Vec::new(alloc),
+            codes: Vec::new(alloc),
+            output: Buffer::new(alloc, 4200)?,
+            work: Buffer::new(alloc, 4200)?,
+            bytes: Buffer::new(alloc, 66000)?,
+        })
+    }
+
+    // Does the command of a line, if it is one.
+    pub(crate) fn obey(&mut self, rt: &impl Print, line: &[u8]) -> io::Result<()> {
+        let (name, arguments) = split_word(line);
+        if let Some(setting) = Setting::named(name) {
+            self.set(setting, arguments)?;
+        } else if let Some(call) = Call::named(name) {
+            rt.write_all(name)?;
+            self.call(rt, call, arguments)?;
+        }
+        Ok(())
+    }
+
+    // Does a command that sets something.
+    fn set(&mut self, setting: Setting, arguments: &[u8]) -> Result<(), AllocError> {
+        let (_, left) = split_word(arguments);
+        match setting {
+            Setting::Empty => self.file.clear(),
+            Setting::Letters => self.file.put_letters(size(arguments))?,
+            Setting::Pairs => self.file.put_pairs(size(arguments))?,
+            Setting::Row => self.file.put_rows(arguments, 1)?,
+            Setting::Again => self.file.put_rows(left, size(arguments))?,
+            Setting::Raw => self.file.put(arguments)?,
+            Setting::Lend => self.lend(arguments),
+            Setting::Set => self.lists.set(arguments),
+            Setting::Text => self.set_text(arguments, 1)?,
+            Setting::Repeat => self.set_text(left, size(arguments))?,
+            Setting::Codes => self.set_codes(arguments)?,
+            Setting::Same => self.repeat_code(entry(left), size(arguments))?,
+        }
+        Ok(())
+    }
+
+    // `lend BUFFER SIZE` for one buffer, `lend all` for all as at first.
+    fn lend(&mut self, arguments: &[u8]) {
+        if arguments == b"all".as_slice() {
+            self.lists.lend_all();
+            self.output.lend_all();
+            self.work.lend_all();
+            self.bytes.lend_all();
+            return;
+        }
+        let (name, left) = split_word(arguments);
+        let count = size(left);
+        match name {
+            b"places" => self.lists.places.lend(count),
+            b"lefts" => self.lists.lefts.lend(count),
+            b"rights" => self.lists.rights.lend(count),
+            b"prefixes" => self.lists.prefixes.lend(count),
+            b"area" => self.lists.area.lend(count),
+            b"output" => self.output.lend(count),
+            b"work" => self.work.lend(count),
+            b"bytes" => self.bytes.lend(count),
+            _ => {}
+        }
+    }
+
+    // `text BYTES` or `repeat TIMES BYTES`: the bytes so many times, as far as there is room.
+    fn set_text(&mut self, line: &[u8], times: usize) -> Result<(), AllocError> {
+        self.text.clear();
+        for _ in 0..times {
+            let room = ROOM.saturating_sub(self.text.len());
+            self.text.extend(Unescaped(line).take(room))?;
+        }
+        Ok(())
+    }
+
+    // `codes CODE ..`, as far as there is room.
+    fn set_codes(&mut self, line: &[u8]) -> Result<(), AllocError> {
+        self.codes.clear();
+        self.codes.extend(
+            line.split_inclusive(|byte| *byte == b' ')
+                .take(ROOM)
+                .map(entry),
+        )
+    }
+
+    // `same TIMES CODE`, as far as there is room.
+    fn repeat_code(&mut self, code: u32, times: usize) -> Result<(), AllocError> {
+        self.codes.clear();
+        self.codes.resize(times.min(ROOM), code)
+    }
+
+    // Does a command that prints.
+    fn call(&mut self, rt: &impl Print, call: Call, arguments: &[u8]) -> io::Result<()> {
+        match call {
+            Call::Bitfield => self.send(rt, byte_pair_encoding::encode_via_bitfield),
+            Call::Backtracking => self.send(rt, byte_pair_encoding::encode_via_backtracking),
+            Call::Table => self.send(rt, byte_pair_encoding::encode_via_table),
+            Call::Minimal => self.send(rt, byte_pair_encoding::encode_minimal),
+            Call::Greedy => self.send(rt, byte_pair_encoding::encode_greedy),
+            Call::Count => self.count(rt),
+            Call::Limit => self.count_till_limit(rt, number(arguments)),
+            Call::Decode => self.decode(rt),
+            Call::Bytes => self.token_bytes(rt, entry(arguments)),
+            Call::Rows => self.num_tokens(rt),
+            Call::Length => self.token_len(rt, entry(arguments)),
+            Call::Pair => self.check_pair(rt, arguments),
+            Call::Build => self.lists.build(rt, &self.file.bytes, number(arguments)),
+            Call::Entries => self.lists.say_entries(rt, size(arguments)),
+        }
+    }
+
+    // An encoder of the text, over buffers that hold canaries.
+    fn send<F>(&mut self, rt: &impl Print, encode: F) -> io::Result<()>
+    where
+        F: Fn(
+            &[u8],
+            &[u32],
+            &[u32],
+            &[u32],
+            &[u32],
+            &[u32],
+            &[u8],
+            &mut [u32],
+            &mut [u32],
+        ) -> Answer,
+        requires { F.IsAlwaysCallable encode }
+    {
+        self.output.fill();
+        self.work.fill();
+        let answer = encode(
+            &self.file.bytes,
+            self.lists.places.lent(),
+            self.lists.lefts.lent(),
+            self.lists.rights.lent(),
+            self.lists.prefixes.lent(),
+            self.lists.area.lent(),
+            &self.text,
+            self.output.lent_mut(),
+            self.work.lent_mut(),
+        );
+        let end = written(answer);
+        say_answer(rt, answer)?;
+        say_codes(rt, self.output.front(end))?;
+        let scratch = self.scratch(answer);
+        say_kept(rt, self.output.is_kept(end) && self.work.is_kept(scratch))
+    }
+
+    // How many work numbers a call may write: one for each byte of the text; none after a refusal.
+    fn scratch(&self, answer: Answer) -> usize {
+        match answer {
+            Answer::Number(_) => self.text.len(),
+            Answer::Refused(_) => 0,
+        }
+    }
+
+    // `count`
+    fn count(&mut self, rt: &impl Print) -> io::Result<()> {
+        self.work.fill();
+        let answer = byte_pair_encoding::count(
+            &self.file.bytes,
+            self.lists.places.lent(),
+            self.lists.lefts.lent(),
+            self.lists.rights.lent(),
+            self.lists.prefixes.lent(),
+            self.lists.area.lent(),
+            &self.text,
+            self.work.lent_mut(),
+        );
+        say_answer(rt, answer)?;
+        let scratch = self.scratch(answer);
+        say_kept(rt, self.work.is_kept(scratch))
+    }
+
+    // `limit LIMIT`: the count, or 4294967295 for "over".
+    fn count_till_limit(&mut self, rt: &impl Print, limit: u64) -> io::Result<()> {
+        self.work.fill();
+        let answer = byte_pair_encoding::count_till_limit(
+            &self.file.bytes,
+            self.lists.places.lent(),
+            self.lists.lefts.lent(),
+            self.lists.rights.lent(),
+            self.lists.prefixes.lent(),
+            self.lists.area.lent(),
+            &self.text,
+            limit,
+            self.work.lent_mut(),
+        );
+        let number = causes::limit_answer_number(answer);
+        let place = causes::limit_answer_place(answer);
+        print!(rt; " {number} {place}")?;
+        let scratch = if number == 0 { self.text.len() } else { 0 };
+        say_kept(rt, self.work.is_kept(scratch))
+    }
+
+    // `decode` of the codes that were set.
+    fn decode(&mut self, rt: &impl Print) -> io::Result<()> {
+        self.bytes.fill();
+        let answer = decoder::decode_tokens(
+            &self.file.bytes,
+            self.lists.places.lent(),
+            self.lists.lefts.lent(),
+            self.lists.rights.lent(),
+            self.lists.prefixes.lent(),
+            self.lists.area.lent(),
+            &self.codes,
+            self.bytes.lent_mut(),
+        );
+        self.say_bytes(rt, answer)
+    }
+
+    // `bytes CODE`
+    fn token_bytes(&mut self, rt: &impl Print, code: u32) -> io::Result<()> {
+        self.bytes.fill();
+        let answer = decoder::token_bytes(
+            &self.file.bytes,
+            self.lists.places.lent(),
+            self.lists.lefts.lent(),
+            self.lists.rights.lent(),
+            self.lists.prefixes.lent(),
+            self.lists.area.lent(),
+            code,
+            self.bytes.lent_mut(),
+        );
+        self.say_bytes(rt, answer)
+    }
+
+    // The answer of a call that decodes, and the bytes.
+    fn say_bytes(&self, rt: &impl Print, answer: Answer) -> io::Result<()> {
+        let end = written(answer);
+        say_answer(rt, answer)?;
+        print!(rt; ": ")?;
+        rt.write_all(self.bytes.front(end))?;
+        say_kept(rt, self.bytes.is_kept(end))
+    }
+
+    // `rows`
+    fn num_tokens(&self, rt: &impl Print) -> io::Result<()> {
+        let answer = tables::num_tokens(
+            &self.file.bytes,
+            self.lists.places.lent(),
+            self.lists.lefts.lent(),
+            self.lists.rights.lent(),
+            self.lists.prefixes.lent(),
+            self.lists.area.lent(),
+        );
+        say_answer(rt, answer)?;
+        println!(rt)
+    }
+
+    // `length ROW`
+    fn token_len(&self, rt: &impl Print, row: u32) -> io::Result<()> {
+        let answer = tables::token_len(
+            &self.file.bytes,
+            self.lists.places.lent(),
+            self.lists.lefts.lent(),
+            self.lists.rights.lent(),
+            self.lists.prefixes.lent(),
+            self.lists.area.lent(),
+            row,
+        );
+        say_answer(rt, answer)?;
+        println!(rt)
+    }
+
+    // `pair ROW ROW`: 1 if the pair passes, else 0.
+    fn check_pair(&self, rt: &impl Print, arguments: &[u8]) -> io::Result<()> {
+        let (_, left) = split_word(arguments);
+        let answer = byte_pair_encoding::is_valid_token_pair(
+            &self.file.bytes,
+            self.lists.places.lent(),
+            self.lists.lefts.lent(),
+            self.lists.rights.lent(),
+            self.lists.prefixes.lent(),
+            self.lists.area.lent(),
+            entry(arguments),
+            entry(left),
+        );
+        let number = causes::pair_answer_number(answer);
+        let place = causes::pair_answer_place(answer);
+        println!(rt; " {number} {place}")
+    }
+}
+
+// How many numbers or bytes an answer says were written; none after a refusal.
+fn written(answer: Answer) -> usize {
+    match answer {
+        Answer::Number(count) => count,
+        Answer::Refused(_) => 0,
+    }
+}

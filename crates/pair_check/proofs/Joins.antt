@@ -19,7 +19,7 @@ use Rattle.placed_rows.specs.Rows.{row}
 use Rattle.search_area.specs.Area.{Finds}
 use Rattle.search_area.specs.Answers.{Found, RowIs}
 use Rattle.marks.specs.Marks.{marked}
-use Rattle.pair_check.specs.Pair.{Distinct, Tells, pair_key, PairsMarked, row_below, listed_in, PairReady, JoinIs, IsJoined}
+use Rattle.pair_check.specs.Pair.{Distinct, Tells, pair_key, PairsMarked, row_below, listed_in, PairReady, JoinIs}
 use Rattle.pair_check.proofs.Listing.{Facts, listed-facts, not_listed}
 use Rattle.tables.specs.Tables.{PairTables}
 
@@ -162,10 +162,3 @@ module _ (P : PairTables) (n q m x y : ℕ) (hm : m ≤ q) where
     nothing = λ _ R D T d F M. unmarked P n q x y R D T m hm M (ap (marked area 15360) (sym z) ∙ sym f ∙ e);
     is = λ z. absurd (z refl);
   }
-
-module _ (P : PairTables) (n q m x y r : ℕ) (J : JoinIs P n q m x y r) where
-  pub is-joined : (r ≡ none → ⊥) → IsJoined P n q m x y true
-  is-joined z = record { row = r; join = J; yes = λ _. z; no = λ e. absurd (true-false e) }
-
-  pub is_not_joined : r ≡ none → IsJoined P n q m x y false
-  is_not_joined z = record { row = r; join = J; yes = λ e. absurd (true-false (sym e)); no = λ _. z }

@@ -112,13 +112,6 @@ pub record JoinIs (P : PairTables) (n q m u v r : ℕ) : Type 0 where
       → Distinct P.file → Finds P.file P.places n P.area
       → listed D r u v ≡ true
 
--- whether there is such a row
-pub record IsJoined (P : PairTables) (n q m u v : ℕ) (b : Bool) : Type 0 where
-  pub row : ℕ
-  pub join : JoinIs P n q m u v row
-  pub yes : b ≡ true → row ≡ none → ⊥
-  pub no : b ≡ false → row ≡ none
-
 -- the answer is that of the pair check over the rows below q
 pub record PairIs (P : PairTables) (n q u v : ℕ) (r : Bool) : Type 0 where
   pub passes_is : (D : Dictionary) → Tells D P.file P.lefts P.rights q → Distinct P.file

@@ -9,12 +9,13 @@ ghost use Rattle.marks.specs.Layout.{seams, area_size};
 ghost use Rattle.marks.specs.Marks.{marked};
 ghost use Rattle.pair_check.specs.Pair.{pair_hash, pair_key, hint_place, row_below, seam_bit, seam_key, first_byte};
 ghost use Rattle.pair_check.specs.Pair.{last_byte};
-ghost use Rattle.pair_check.specs.Pair.{listed_in, JoinReady, JoinIs, IsJoined, SeamReady, PairReady, PairIs};
+ghost use Rattle.pair_check.specs.Pair.{listed_in, JoinReady, JoinIs, SeamReady, PairReady, PairIs};
 ghost use Rattle.pair_check.specs.Pair.{PassIs};
-ghost use Rattle.tables.specs.Tables.{pair_given, pair_lent};
+ghost use Rattle.tables.specs.Tables.{pair_given};
 
 use marks::{HINTS, PAIRS, SEAMS};
-use placed_rows::{NONE, bytes_of, wide};
+use placed_rows::NONE;
+use tables::RowTables;
 
 // A number of 32 bits for two codes.
 fn pair_hash(left: u32, right: u32) -> u64
@@ -32,28 +33,21 @@ pub fn pair_key(left: u32, right: u32) -> usize
 }
 
 // Whether row c is below `bound` and has the two as its parts; a one-byte row, which has itself twice, has none.
-fn is_listed_before(
-    lefts: &[u32],
-    rights: &[u32],
-    c: u32,
-    bound: u32,
-    left: u32,
-    right: u32,
-) -> bool
-    requires { (bound ≤ length lefts.now) × (bound ≤ length rights.now) }
-    ensures { result ≡ listed_in lefts.now rights.now c bound left right }
+fn is_listed_before(tables: &RowTables<'_>, c: u32, bound: u32, left: u32, right: u32) -> bool
+    requires { (bound ≤ length tables.now.lefts.now) × (bound ≤ length tables.now.rights.now) }
+    ensures { result ≡ listed_in tables.now.lefts.now tables.now.rights.now c bound left right }
 {
     if bound <= c {
         return false;
     }
     let i = c as usize;
-    if lefts[i] != left {
+    if tables.lefts[i] != left {
         return false;
     }
     if c <= left {
         return false;
     }
-    rights[i] == right
+    tables.rights[i] == right
 }
 
 // The hint that may name the row that has the two as its parts.
@@ -79,82 +73,32 @@ fn row_below(row: u32, bound: u32) -> u32
 
 // The row below `bound` that has the two as its parts, or NONE, `limit` being the number of rows whose parts are
 // known. Where the row that the search area names does not have them as its parts, their join is looked up.
-fn look_up(
-    file: &[u8],
-    places: &[u32],
-    lefts: &[u32],
-    rights: &[u32],
-    area: &[u32],
-    n: usize,
-    limit: u32,
-    bound: u32,
-    left: u32,
-    right: u32,
-) -> u32
-    requires { JoinReady (pair_given file places lefts rights area) n limit bound left right }
-    ensures { JoinIs (pair_lent file places lefts rights area) n limit bound left right result }
+#[inline(never)]
+fn look_up(tables: &RowTables<'_>, limit: u32, bound: u32, left: u32, right: u32) -> u32
+    requires { JoinReady (pair_given tables.now) tables.now.rows.n limit bound left right }
+    ensures { JoinIs (pair_given tables.now) tables.now.rows.n limit bound left right result }
 {
-    let hint = hint_at(area, hint_place(left, right));
-    if is_listed_before(lefts, rights, hint, limit, left, right) {
+    let hint = hint_at(tables.area, hint_place(left, right));
+    if is_listed_before(tables, hint, limit, left, right) {
         return row_below(hint, bound);
     }
-    let combined = search_area::join(file, places, area, n, left, right);
-    if is_listed_before(lefts, rights, combined, bound, left, right) {
+    let combined = search_area::join(&tables.rows, tables.area, left, right);
+    if is_listed_before(tables, combined, bound, left, right) {
         return combined;
     }
     NONE
 }
 
 // The same row: two that are not marked are the parts of none.
-pub fn join_before(
-    file: &[u8],
-    places: &[u32],
-    lefts: &[u32],
-    rights: &[u32],
-    area: &[u32],
-    n: usize,
-    limit: u32,
-    bound: u32,
-    left: u32,
-    right: u32,
-) -> u32
-    requires { JoinReady (pair_given file places lefts rights area) n limit bound left right }
-    ensures { JoinIs (pair_lent file places lefts rights area) n limit bound left right result }
+#[inline(always)]
+pub fn join_before(tables: &RowTables<'_>, limit: u32, bound: u32, left: u32, right: u32) -> u32
+    requires { JoinReady (pair_given tables.now) tables.now.rows.n limit bound left right }
+    ensures { JoinIs (pair_given tables.now) tables.now.rows.n limit bound left right result }
 {
-    if !marks::is_marked(area, PAIRS, pair_key(left, right)) {
+    if !marks::is_marked(tables.area, PAIRS, pair_key(left, right)) {
         return NONE;
     }
-    look_up(
-        file, places, lefts, rights, area, n, limit, bound, left, right,
-    )
-}
-
-// Whether there is such a row.
-fn is_joined_before(
-    file: &[u8],
-    places: &[u32],
-    lefts: &[u32],
-    rights: &[u32],
-    area: &[u32],
-    n: usize,
-    limit: u32,
-    bound: u32,
-    left: u32,
-    right: u32,
-) -> bool
-    requires { JoinReady (pair_given file places lefts rights area) n limit bound left right }
-    ensures { IsJoined (pair_lent file places lefts rights area) n limit bound left right result }
-{
-    if !marks::is_marked(area, PAIRS, pair_key(left, right)) {
-        return false;
-    }
-    let row = look_up(
-        file, places, lefts, rights, area, n, limit, bound, left, right,
-    );
-    if row == NONE {
-        return false;
-    }
-    true
+    look_up(tables, limit, bound, left, right)
 }
 
 // Whether a longer left code is undone before the right one, whose left part is `part`: it is higher, or the right
@@ -162,39 +106,24 @@ fn is_joined_before(
 fn is_undone_first(left: u32, right: u32, part: u32) -> bool
     ensures { result ≡ ltb right left || eqb part right }
 {
-    if right < left {
-        return true;
-    }
-    part == right
+    right < left || part == right
 }
 
 // The pair check over the rows below `limit`, for two of them.
-pub fn is_valid_pair_by_parts(
-    file: &[u8],
-    places: &[u32],
-    lefts: &[u32],
-    rights: &[u32],
-    area: &[u32],
-    n: usize,
-    limit: u32,
-    token1: u32,
-    token2: u32,
-) -> bool
-    requires { PairReady (pair_given file places lefts rights area) n limit token1 token2 }
-    ensures { PairIs (pair_lent file places lefts rights area) n limit token1 token2 result }
+pub fn is_valid_pair_by_parts(tables: &RowTables<'_>, limit: u32, token1: u32, token2: u32) -> bool
+    requires { PairReady (pair_given tables.now) tables.now.rows.n limit token1 token2 }
+    ensures { PairIs (pair_given tables.now) tables.now.rows.n limit token1 token2 result }
 {
     let mut left = token1;
     let mut right = token2;
     let mut bound = limit;
     loop {
-        if is_joined_before(
-            file, places, lefts, rights, area, n, limit, bound, left, right,
-        ) {
+        if join_before(tables, limit, bound, left, right) != NONE {
             return false;
         }
         // Undo the higher one, or the other where that is a single byte.
-        let left_part = rights[left as usize];
-        let right_part = lefts[right as usize];
+        let left_part = tables.rights[left as usize];
+        let right_part = tables.lefts[right as usize];
         if left_part == left {
             if right_part == right {
                 return true;
@@ -239,33 +168,23 @@ pub fn may_join(area: &[u32], a: u8, b: u8) -> bool
 }
 
 // Whether the seam of two rows is marked.
-fn may_meet(file: &[u8], places: &[u32], area: &[u32], n: usize, left: u32, right: u32) -> bool
-    requires { SeamReady file.now places.now area.now n left right }
-    ensures { result ≡ marked area.now seams (seam_key (last_byte file.now left)
-        (first_byte file.now right)) }
+fn may_meet(tables: &RowTables<'_>, left: u32, right: u32) -> bool
+    requires { let t = tables.now in SeamReady t.rows.file.now t.rows.places.now t.area.now t.rows.n left right }
+    ensures { result ≡ marked tables.now.area.now seams (seam_key (last_byte tables.now.rows.file.now left)
+        (first_byte tables.now.rows.file.now right)) }
 {
-    let before = bytes_of(file, places, n, wide(left));
-    let after = bytes_of(file, places, n, wide(right));
-    may_join(area, before[before.len() - 1], after[0])
+    let before = tables.rows.bytes_of(left as usize);
+    let after = tables.rows.bytes_of(right as usize);
+    may_join(tables.area, before[before.len() - 1], after[0])
 }
 
 // The pair check over the rows below `limit`, for two of them: they pass where their seam is not marked.
-pub fn is_valid_pair(
-    file: &[u8],
-    places: &[u32],
-    lefts: &[u32],
-    rights: &[u32],
-    area: &[u32],
-    n: usize,
-    limit: u32,
-    token1: u32,
-    token2: u32,
-) -> bool
-    requires { PairReady (pair_given file places lefts rights area) n limit token1 token2 }
-    ensures { PassIs (pair_lent file places lefts rights area) n limit token1 token2 result }
+pub fn is_valid_pair(tables: &RowTables<'_>, limit: u32, token1: u32, token2: u32) -> bool
+    requires { PairReady (pair_given tables.now) tables.now.rows.n limit token1 token2 }
+    ensures { PassIs (pair_given tables.now) tables.now.rows.n limit token1 token2 result }
 {
-    if !may_meet(file, places, area, n, token1, token2) {
+    if !may_meet(tables, token1, token2) {
         return true;
     }
-    is_valid_pair_by_parts(file, places, lefts, rights, area, n, limit, token1, token2)
+    is_valid_pair_by_parts(tables, limit, token1, token2)
 }

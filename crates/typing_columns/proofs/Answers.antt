@@ -27,7 +27,7 @@ use Rattle.built_tables.specs.Built.{dictionary_of, Built}
 use Rattle.built_tables.proofs.Rows.{lawful-is, known}
 use Rattle.typing_columns.specs.Refusals.{head_out, any_out, extend_refusal, token_count_refusal}
 use Rattle.typing_columns.specs.Columns.{last_count, FormOf, ExtendedColumns, CountedColumns}
-use Rattle.typing_columns.specs.Steps.{Mirrored, Sizes, RecordsReady, RecordsAre, ExtendReady, ExtendedBy, PassedTo, Checked}
+use Rattle.typing_columns.specs.Steps.{Mirrored, RecordsReady, RecordsAre, ExtendReady, ExtendedBy, PassedTo, Checked}
 use Rattle.typing_columns.proofs.Rows.{parts_in_form_lem}
 use Rattle.typing_columns.proofs.Recording.{checks_as}
 
@@ -86,14 +86,14 @@ same_build T n m P B =
     subst (λ (x : ℕ). Built T x) ((accepted T.file m B.passed).count ∙ sym P.count) B
 
 -- the records may be read
-pub checked_records_ready : (T : Tables) (len : ℕ) (bytes codes counts reading₀ reading : List ℕ) (n : ℕ)
-    → form_of T ≡ Rows n → Sizes bytes codes counts reading₀ → Mirrored bytes reading len
+pub checked_records_ready : (T : Tables) (len : ℕ) (bytes codes counts reading : List ℕ) (n : ℕ)
+    → form_of T ≡ Rows n → Mirrored bytes reading len → length codes ≡ 4096 → length counts ≡ 4096
     → RecordsReady (without_prefixes T) n bytes reading codes counts len
-checked_records_ready T len bytes codes counts reading₀ reading n e S M = record {
+checked_records_ready T len bytes codes counts reading n e M codes_size counts_size = record {
   is_in_form = parts_in_form_lem T n (ready T n e);
   mirrored = M;
-  codes_size = S.codes_size;
-  counts_size = S.counts_size;
+  codes_size = codes_size;
+  counts_size = counts_size;
 }
 
 module _ (T : Tables) (side : Side) (len size : ℕ) (bytes codes counts : List ℕ) where
@@ -119,12 +119,6 @@ module _ (T : Tables) (side : Side) (len size : ℕ) (bytes codes counts : List 
     checked_out e = record { fine = formed; form = unread; answer = rw e; passed = λ n z. absurd (out_rows n z) }
 
     module _ (n : ℕ) (e : form ≡ Rows n) where
-      pub checked-beyond : size < len → Checked T side len size bytes codes counts reading Out
-      checked-beyond h = record { fine = formed; form = unread; answer = rw (e, lt-ltb size len h); passed = λ m z. absurd (out_rows m z) }
-
-      pub checked-long : len ≤ size → 4096 < len → Checked T side len size bytes codes counts reading Out
-      checked-long h k = record { fine = formed; form = unread; answer = rw (e, le-ltb size len h, lt-ltb 4096 len k); passed = λ m z. absurd (out_rows m z) }
-
       read : (r : Bool) → RecordsAre (without_prefixes T) side n bytes codes counts len r → FormOf T side len size bytes codes counts r
       read r R h = record {
         passed = R.passed;
@@ -206,10 +200,6 @@ module _ (T : Tables) (side : Side) (len size : ℕ) (bytes codes counts : List 
                   record { code = t.0 (len + k) (omega arith); count = t.1 (len + k) (omega arith) };
             });
           }
-
-  -- what passed the checks has a length in form
-  pub checked-place : (reading : List ℕ) (n : ℕ) → Checked T side len size bytes codes counts reading (Rows n) → len ≤ 4096
-  checked-place reading n C = (C.passed n refl).mirrored.fits
 
   -- the columns may be extended
   pub extend-ready : (typed reading : List ℕ) (n : ℕ) → Checked T side len size bytes codes counts reading (Rows n)

@@ -13,43 +13,9 @@ use Rattle.theory.proofs.Lists.{lt_or_ge}
 use Rattle.theory.proofs.Typing.{code_at_append, code_at_take, count_at-append, count_at-take}
 use Rattle.built_tables.specs.Built.{dictionary_of, Built}
 use Rattle.end_code.specs.Tables.{RowsTo, PartsInForm}
-use Rattle.end_code.specs.Codes.{CodeReady}
 use Rattle.end_code.proofs.Sizes.{at_set}
-use Rattle.typing_columns.specs.Steps.{CountsTo, CodesAre, CountsAre, CountReady, CountIs, CodeIs, PushReady, Pushed, ExtendReady, ExtendedBy}
+use Rattle.typing_columns.specs.Steps.{CountsTo, CodesAre, CountsAre, Pushed, ExtendReady, ExtendedBy}
 use Rattle.tables.specs.Tables.{PairTables, with_prefixes}
-
-module _ (P : PairTables) (n i : ℕ) (bytes codes counts : List ℕ) (R : PushReady P n i bytes codes counts) where
-  open P use {file, places}
-
-  pub push_code_ready : (byte : ℕ) → CodeReady P n (set bytes i byte) i codes
-  push_code_ready byte = record {
-    is_in_form = R.is_in_form;
-    inside = omega (arith, length-set bytes i byte, R.bytes_size, R.place);
-    before = record { room = omega (arith, R.codes_size, R.place); rows = R.rows };
-  }
-
-  pub push_count_ready : (code : ℕ) → code < n → CountReady file places n counts i code
-  push_count_ready code h = record {
-    places_ready = R.is_in_form.places_ready;
-    place = R.place;
-    room = omega (arith, R.counts_size, R.place);
-    small = R.small;
-    row = h;
-  }
-
-  pub push-made : (side : Side) (byte code count : ℕ) → CodeIs P side n (set bytes i byte) i codes code → CountIs file counts i code count
-      → Pushed P side n i byte bytes codes counts (set bytes i byte) (set codes i code) (set counts i count)
-  push-made side byte code count C K = record {
-    code = code;
-    count = count;
-    row = C.row;
-    small = K.small;
-    bytes_are = refl;
-    codes_are = refl;
-    counts_are = refl;
-    code_is = C.code;
-    count_is = λ prefixes B agree small. K.is ∙ C.count prefixes B agree counts small;
-  }
 
 module _ (P : PairTables) (side : Side) (n len : ℕ) (bytes₀ codes₀ counts₀ typed : List ℕ) where
   open P use {file}
@@ -114,17 +80,6 @@ module _ (P : PairTables) (side : Side) (n len : ℕ) (bytes₀ codes₀ counts�
     }
 
     module _ (h : k < length typed) where
-      pub extending_ready : PushReady P n (len + k) bytes codes counts
-      extending_ready = record {
-        is_in_form = E.is_in_form;
-        place = omega (arith, E.room);
-        bytes_size = E.bytes_size;
-        codes_size = E.codes_size;
-        counts_size = E.counts_size;
-        rows = E.rows;
-        small = E.small;
-      }
-
       module _ (bytes' codes' counts' : List ℕ)
           (Q : Pushed P side n (len + k) (get_or typed k 0) bytes codes counts bytes' codes' counts') where
         abbrev i : ℕ

@@ -15,10 +15,10 @@ use Rattle.theory.specs.Typing.{Side, check_at, in_form_if, in_form}
 use Rattle.theory.proofs.Lists.{true-false, bool_cases, lt_or_ge}
 use Rattle.tables.specs.Tables.{PairTables, with_prefixes}
 use Rattle.tables.specs.InForm.{all_below}
-use Rattle.tables.proofs.Sweeps.{all_more, all_done, all-fails, all_same}
+use Rattle.tables.proofs.Sweeps.{all_more, all-fails, all_same}
 use Rattle.built_tables.specs.Built.{dictionary_of, Built}
 use Rattle.end_code.specs.Tables.{RowsTo}
-use Rattle.typing_columns.specs.Steps.{CountsTo, ends_bytes, follows_if, count_with, EndsReady, FollowsReady, FollowsIs, CountReady, CountIs, RecordsReady, RecordReady, RecordIs, RecordsAre}
+use Rattle.typing_columns.specs.Steps.{CountsTo, ends_bytes, follows_if, count_with, FollowsIs, CountIs, RecordsReady, RecordReady, RecordIs, RecordsAre}
 use Rattle.typing_columns.proofs.Rows.{row_count}
 
 or-last : (a : Bool) → a || false ≡ a
@@ -71,29 +71,6 @@ module _ (D : Dictionary) (side : Side) (bytes codes counts : List ℕ) (passed 
   tests = ⊎_elim longer (λ l. ⊎_elim whole shorter (eq-or-lt_of_le l)) (lt_or_ge (suc i) size)
 
 -- what the tests of record i need
-module _ (P : PairTables) (n : ℕ) (bytes reading codes counts : List ℕ) (i : ℕ)
-    (R : RecordReady P n bytes reading codes counts i) (h : get_or codes i 0 < n) where
-  open P use {file, places}
-
-  pub record_ends_ready : EndsReady file places n bytes reading i (get_or codes i 0)
-  record_ends_ready = record { places_ready = R.ready.is_in_form.places_ready; row = h; mirrored = R.ready.mirrored }
-
-  pub record_follows_ready : FollowsReady P n codes i (get_or codes i 0)
-  record_follows_ready = record {
-    is_in_form = R.ready.is_in_form;
-    before = record { room = omega (arith, R.ready.codes_size, R.ready.mirrored.fits); rows = R.rows };
-    row = h;
-  }
-
-  pub record_count_ready : CountReady file places n counts i (get_or codes i 0)
-  record_count_ready = record {
-    places_ready = R.ready.is_in_form.places_ready;
-    place = R.ready.mirrored.fits;
-    room = omega (arith, R.ready.counts_size, R.ready.mirrored.fits);
-    small = R.small;
-    row = h;
-  }
-
 module _ (P : PairTables) (side : Side) (n : ℕ) (bytes reading codes counts : List ℕ) (i : ℕ)
     (R : RecordReady P n bytes reading codes counts i) where
   open P use {file, places}
@@ -192,33 +169,7 @@ module _ (P : PairTables) (side : Side) (n : ℕ) (bytes reading codes counts : 
   }
 
   module _ (i : ℕ) (S : Recorded i) where
-    pub records-end : len ≤ i → RecordsAre P side n bytes codes counts len true
-    records-end h = record {
-      passed = S.passed;
-      is = all_done (formed S.passed) len i S.within h S.fine;
-      rows = λ _ j l. S.rows j (omega arith);
-      small = λ _ j l. S.small j (omega arith);
-      built = S.built;
-    }
-
     module _ (h : i < len) where
-      pub records-ready : RecordReady P n bytes reading codes counts i
-      records-ready = record {
-        ready = record {
-          is_in_form = S.ready.is_in_form;
-          mirrored = record {
-            size = S.ready.mirrored.size;
-            bytes_size = S.ready.mirrored.bytes_size;
-            fits = omega (arith, S.ready.mirrored.fits);
-            same = λ j l. S.ready.mirrored.same j (omega arith);
-          };
-          codes_size = S.ready.codes_size;
-          counts_size = S.ready.counts_size;
-        };
-        rows = S.rows;
-        small = S.small;
-      }
-
       module _ (r : Bool) (F : RecordIs P side n bytes codes counts i r) where
         abbrev passed' : ℕ → Bool
         passed' = with_answer S.passed i F.passed

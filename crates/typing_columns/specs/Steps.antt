@@ -203,13 +203,6 @@ pub record PassedTo (T : Tables) (side : Typing.Side) (n len : ℕ) (bytes readi
   pub codes_are : Built T n → CodesAre T.file side bytes codes len
   pub counts_are : Built T n → CountsAre T.file side bytes counts len
 
--- the sizes of the columns
-pub record Sizes (bytes codes counts reading : List ℕ) : Type 0 where
-  pub bytes_size : length bytes ≡ 4096
-  pub codes_size : length codes ≡ 4096
-  pub counts_size : length counts ≡ 4096
-  pub reading_size : length reading ≡ 4096
-
 -- the checks of tables, head and records: the count of rows, or out of form; if there is none, the records below len
 -- may be read
 pub record Checked (T : Tables) (side : Typing.Side) (len size : ℕ) (bytes codes counts reading : List ℕ)

@@ -4,7 +4,7 @@ use mathlib.Core.Bool.{Bool, cond}
 use borrow.Author.Tests.{eq-eqb, ne_eqb}
 use Rattle.typing_columns.specs.Sides.{side_numbered}
 use Rattle.typing_columns.specs.declared.Side.TheVariants.{Append, Prepend}
-use Rattle.typing_columns.proofs.side_numbered.Goals as goal
+use Rattle.typing_columns.proofs.SideFromU32.from.Goals as goal
 
 pub returns-then-number-eq0 : goal.returns-then-number-eq0
 unfolding side_numbered

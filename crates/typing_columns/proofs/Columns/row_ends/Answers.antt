@@ -1,12 +1,6 @@
 -- The row's bytes are compared with the text as it is read in either direction (proofs/Ending.antt). Assumes nothing.
-use mathlib.Core.Path.{sym}
-use native.Mathlib.Omega.{arith}
-use lib.Seq.{length-take-le}
 use Rattle.typing_columns.proofs.Ending.{ends-appended, ends-prepended}
-use Rattle.typing_columns.proofs.row_ends.Goals as goal
-
-pub slice_bounds-begins_facing-end : goal.slice_bounds-begins_facing-end
-slice_bounds-begins_facing-end c = sym (length-take-le _ _ (omega (arith, c.requires.mirrored.fits, c.requires.mirrored.bytes_size)))
+use Rattle.typing_columns.proofs.Columns.row_ends.Goals as goal
 
 pub returns-in-Append : goal.returns-in-Append
 returns-in-Append c = ends-appended _ _ _ _ _ _ _ _ _ c.requires c.wide.ensures.is _ c.bytes_of-row.ensures c.in-Append.is _ c.begins_facing.ensures

@@ -4,7 +4,7 @@ use mathlib.Core.Option.{Option, none, some}
 use mathlib.Core.List.{List, ◌++◌}
 use Prim.Native.Nat.{ℕ, ◌+◌, ◌<◌, ◌≤◌}
 use native.Mathlib.Omega.{arith}
-use lib.ListN.{length, get_or, take, drop, replicate, length-replicate, length-map, take-append-drop}
+use lib.ListN.{length, get_or, take, drop, length-map, take-append-drop}
 use lib.Seq.{get_or-append-add, length-take-le}
 use Rattle.theory.proofs.Lists.{bool_cases}
 use Rattle.theory.specs.Typing.{Side, entry_at, code_at, count_at}
@@ -18,7 +18,7 @@ use Rattle.typing_columns.specs.Refusals.{head_out, extend_refusal, token_count_
 use Rattle.typing_columns.specs.Columns.{last_count, Added, Typed, ExtendedColumns, CountedColumns}
 use Rattle.typing.specs.declared.State.{State}
 use Rattle.typing.specs.Records.{no_state, entry_of, bytes_of, counts_of}
-use Rattle.typing.specs.Steps.{usable_of, end_after, Room, ColumnsReady, Copied, Places, Stored}
+use Rattle.typing.specs.Steps.{usable_of, end_after, Room, Copied, Places, Stored}
 use Rattle.typing.specs.Calls.{Extended, TokenCounted}
 use Rattle.typing.proofs.Ending.{usable_out, usable_in, end_refused, end-given}
 use Rattle.typing.proofs.Refusals.{head-fits, counted_in, Extends, extends}
@@ -29,33 +29,24 @@ usable_room len size = bool_cases (head_out len size)
     (λ out. subst (λ (k : ℕ). Room k size) (sym (usable_out len size out)) record { slice_fits = omega arith; columns_fit = omega arith })
     (λ fits. subst (λ (k : ℕ). Room k size) (sym (usable_in len size fits)) record { slice_fits = (head-fits len size fits).0; columns_fit = (head-fits len size fits).1 })
 
--- the columns of a call, as they are at first
-abbrev pub blank : List ℕ
-blank = replicate 4096 0
-
-pub ready : (len size k : ℕ) → k ≡ usable_of len size → ColumnsReady k size blank blank blank
-ready len size k e = record {
-  room = subst (λ (m : ℕ). Room m size) (sym e) (usable_room len size);
-  bytes_long = length-replicate {A = ℕ} 4096 0;
-  codes_long = length-replicate {A = ℕ} 4096 0;
-  counts_long = length-replicate {A = ℕ} 4096 0;
-}
+pub ready : (len size k : ℕ) → k ≡ usable_of len size → Room k size
+ready len size k e = rw e (usable_room len size)
 
 module _ (T : Tables) (side : Side) (states : List State) (bytes codes counts : List ℕ) where
   open T use {file}
 
-  pub token_counted : (len at k : ℕ) (r : Answer) → at ≡ len → k ≡ usable_of at (length states) → Copied states k bytes codes counts
-      → CountedColumns T side at (length states) bytes codes counts r
+  pub token_counted : (len k : ℕ) (r : Answer) → k ≡ usable_of len (length states) → Copied states k bytes codes counts
+      → CountedColumns T side len (length states) bytes codes counts r
       → TokenCounted T side len states r
-  token_counted len at k r is usable copied counted =
-      let all : Copied states (usable_of at (length states)) bytes codes counts = subst (λ (m : ℕ). Copied states m bytes codes counts) usable copied in
-      subst (λ (m : ℕ). TokenCounted T side m states r) is record {
+  token_counted len k r usable copied counted =
+      let all : Copied states (usable_of len (length states)) bytes codes counts = subst (λ (m : ℕ). Copied states m bytes codes counts) usable copied in
+      record {
         fine = counted.fine;
-        form = form-same states at bytes codes counts all T side counted.fine counted.form;
+        form = form-same states len bytes codes counts all T side counted.fine counted.form;
         call =
-            let number_is : token_count_refusal T at (length states) counted.fine ≡ none → counted.call.value ≡ last_count (counts_of states) at =
-            λ o. counted.call.given o ∙ last-same states at bytes codes counts all (counted_in T at (length states) counted.fine o) in
-            call_of to_number (last_count (counts_of states) at) (answer_with to_number counted.call (last_count (counts_of states) at) number_is)
+            let number_is : token_count_refusal T len (length states) counted.fine ≡ none → counted.call.value ≡ last_count (counts_of states) len =
+            λ o. counted.call.given o ∙ last-same states len bytes codes counts all (counted_in T len (length states) counted.fine o) in
+            call_of to_number (last_count (counts_of states) len) (answer_with to_number counted.call (last_count (counts_of states) len) number_is)
             (λ cause o. record {}) (λ o. refl);
       }
 
@@ -84,8 +75,11 @@ module _ (T : Tables) (side : Side) (states : List State) (bytes codes counts : 
           let same : end ≡ len = end_is end e ∙ end_refused refusal (len + length typed) len cause o in
           record { order = omega arith; room = λ l. absurd (omega (arith, l)) }
 
-    module _ (copied : Copied states (usable_of len (length states)) bytes codes counts) (end len' : ℕ) (states' : List State) (e : end ≡ end_after r len) (l : len' ≡ end)
+    module _ (k : ℕ) (usable : k ≡ usable_of len (length states)) (some : Copied states k bytes codes counts) (end : ℕ) (states' : List State) (e : end ≡ end_after r len)
         (stored : Stored states len end bytes' codes' counts' states') where
+      copied : Copied states (usable_of len (length states)) bytes codes counts
+      copied = subst (λ (m : ℕ). Copied states m bytes codes counts) usable some
+
       -- a record added
       entry : refusal ≡ none → (n : ℕ) → Built T n → (k : ℕ) → k < length typed
           → entry_of (get_or states' (len + k) no_state) ≡ entry_at (dictionary_of file) side (take len (bytes_of states) ++ typed) (len + k)
@@ -110,31 +104,22 @@ module _ (T : Tables) (side : Side) (states : List State) (bytes codes counts : 
           let longer : end ≡ len + length typed = end_is end e ∙ end-given refusal (len + length typed) len o in
           rw (stored.stored (len + k) (omega arith) (omega (arith, h))) ((done.call.given o).added k h)
 
-      pub extended-at : Extended T side len states typed r len' states'
-      extended-at = record {
+      pub extended : Extended T side len states typed r end states'
+      extended = record {
         fine = done.fine;
         form = form-same states len bytes codes counts copied T side done.fine done.form;
         call = call_of to_number (len + length typed) answer
             (λ cause o.
             let same : end ≡ len = end_is end e ∙ end_refused refusal (len + length typed) len cause o in
             let beyond : drop len states' ≡ drop len states = subst (λ (m : ℕ). drop m states' ≡ drop m states) same stored.beyond_kept in
-            (l ∙ same, sym (take-append-drop len states') ∙ (λ j. stored.before_kept j ++ beyond j) ∙ take-append-drop len states))
+            (same, sym (take-append-drop len states') ∙ (λ j. stored.before_kept j ++ beyond j) ∙ take-append-drop len states))
             (λ o. record {
               number_is = refl;
-              longer = l ∙ end_is end e ∙ end-given refusal (len + length typed) len o;
+              longer = end_is end e ∙ end-given refusal (len + length typed) len o;
               added = added o;
               built = entry o;
             });
         size_kept = stored.size_kept;
         before_kept = stored.before_kept;
-        beyond_kept = subst (λ (m : ℕ). drop m states' ≡ drop m states) (sym l) stored.beyond_kept;
+        beyond_kept = stored.beyond_kept;
       }
-
-  pub extended : (typed bytes' codes' counts' : List ℕ) (len at k end len' : ℕ) (r : Answer) (states' : List State) → at ≡ len → k ≡ usable_of at (length states)
-      → Copied states k bytes codes counts
-      → ExtendedColumns T side at (length states) bytes codes counts typed r bytes' codes' counts'
-      → end ≡ end_after r at → Stored states at end bytes' codes' counts' states' → len' ≡ end
-      → Extended T side len states typed r len' states'
-  extended typed bytes' codes' counts' len at k end len' r states' is usable copied done e stored l =
-      subst (λ (m : ℕ). Extended T side m states typed r len' states') is
-      (extended-at typed bytes' codes' counts' at r done (subst (λ (m : ℕ). Copied states m bytes codes counts) usable copied) end len' states' e l stored)

@@ -1,11 +1,10 @@
 -- What an answer leaves in the head. Assumes nothing.
-use mathlib.Core.Path.{◌≡◌, refl, ◌∙◌, ap, subst}
+use mathlib.Core.Path.{◌≡◌, refl, ◌∙◌, ap}
 use mathlib.Core.List.{[], ◌∷◌}
 use mathlib.Core.Bool.{Bool, true, false, cond, ◌||◌}
 use mathlib.Core.Option.{Option, none, some}
-use Prim.Native.Nat.{ℕ, ◌<◌, ◌≤◌, min}
-use lib.Dec.{ltb}
-use borrow.Author.Tests.{lt-ltb, le-ltb}
+use Prim.Native.Nat.{ℕ, ◌≤◌, min}
+use borrow.Author.Tests.{le-ltb}
 use Rattle.causes.specs.declared.Cause.{Cause}
 use Rattle.causes.specs.declared.Answer.{Answer}
 use Rattle.causes.specs.Order.{other_order, when, first_of}
@@ -18,12 +17,6 @@ use Rattle.typing.specs.Calls.{Truncated}
 use Rattle.typing.specs.Steps.{usable_of, end_after}
 
 -- ---- the head
-pub head-beyond : (len size : ℕ) → size < len → head_out len size ≡ true
-head-beyond len size l = ap (λ (b : Bool). b || ltb 4096 len) (lt-ltb size len l)
-
-pub head-within : (len size : ℕ) → len ≤ size → head_out len size ≡ ltb 4096 len
-head-within len size l = ap (λ (b : Bool). b || ltb 4096 len) (le-ltb size len l)
-
 pub head_in : (len size : ℕ) → len ≤ size → len ≤ 4096 → head_out len size ≡ false
 head_in len size l h = λ j. le-ltb size len l j || le-ltb 4096 len h j
 
@@ -50,12 +43,10 @@ end_refused o n len cause e = ap (λ (p : Option Cause). end_after (saying to_nu
 pub end-given : (o : Option Cause) (n len : ℕ) → o ≡ none → end_after (saying to_number o n) len ≡ n
 end-given o n len e = ap (λ (p : Option Cause). end_after (saying to_number p n) len) e
 
-pub truncated : (len at size keep end : ℕ) (r : Answer) (len' : ℕ) → at ≡ len
-    → r ≡ saying to_number (truncate_refusal at size) (min at keep) → end ≡ end_after r at → len' ≡ end → Truncated len size keep r len'
-truncated len at size keep end r len' is a e l =
-    let after : len' ≡ end_after (saying to_number (truncate_refusal at size) (min at keep)) at =
-    l ∙ e ∙ ap (λ (s : Answer). end_after s at) a in
-    subst (λ (k : ℕ). Truncated k size keep r len') is
-    (call_of to_number (min at keep) a
-    (λ cause o. after ∙ end_refused (truncate_refusal at size) (min at keep) at cause o)
-    (λ o. (refl, after ∙ end-given (truncate_refusal at size) (min at keep) at o)))
+pub truncated : (len size keep : ℕ) (r : Answer) (end : ℕ) → r ≡ saying to_number (truncate_refusal len size) (min len keep) → end ≡ end_after r len
+    → Truncated len size keep r end
+truncated len size keep r end a e =
+    let after : end ≡ end_after (saying to_number (truncate_refusal len size) (min len keep)) len = e ∙ ap (λ (s : Answer). end_after s len) a in
+    call_of to_number (min len keep) a
+    (λ cause o. after ∙ end_refused (truncate_refusal len size) (min len keep) len cause o)
+    (λ o. (refl, after ∙ end-given (truncate_refusal len size) (min len keep) len o))

@@ -1,4 +1,3 @@
-pub mod Moving
 pub mod Ending
 pub mod Refusals
 pub mod Agreeing

@@ -3,7 +3,7 @@ use mathlib.Core.Path.{◌≡◌, refl, sym, ◌∙◌, ap, subst}
 use mathlib.Core.Option.{Option, none, some}
 use mathlib.Core.List.{List, [], ◌∷◌, ◌++◌}
 use mathlib.Core.Bool.{Bool, true, false}
-use mathlib.Core.Logic.{◌⊎◌, ⊎_elim}
+use mathlib.Core.Logic.{⊎_elim}
 use Prim.Native.Nat.{ℕ, suc, ◌+◌, ◌-◌, ◌<◌, ◌≤◌, min}
 use native.Mathlib.Nat.{eq-or-lt_of_le, lt_irrefl}
 use native.Mathlib.Numerals.{add-one}
@@ -22,7 +22,6 @@ use Rattle.theory.proofs.Typing.{same-form, trues_form, entry_at_take}
 use Rattle.causes.specs.declared.Cause.{Cause}
 use Rattle.tables.specs.Tables.{Tables}
 use Rattle.tables.specs.InForm.{is_out, form_of}
-use Rattle.tables.specs.declared.Form.{Form}
 use Rattle.causes.specs.declared.Answer.{Answer}
 use Rattle.causes.specs.declared.Answer.TheVariants.{Number}
 use Rattle.causes.specs.Call.{saying, to_number}
@@ -74,9 +73,6 @@ module _ (T : Tables) (n : ℕ) (B : Built T n) (side : Side) (text : List ℕ) 
 
   abbrev D : Dictionary
   D = dictionary_of file
-
-  abbrev form-is : Form
-  form-is = form_of T
 
   -- a count is no more than the bytes
   count_small : (i : ℕ) → count_at D side text i ≤ suc i
@@ -173,29 +169,11 @@ pub record Typing (T : Tables) (side : Side) (text counts₀ : List ℕ) (i len 
 module _ (T : Tables) (side : Side) (text counts₀ : List ℕ) where
   open T use {file}
 
-  pub begins : (len : ℕ) (states : List State) → len ≡ 0 → length states ≡ 4096 → Typing T side text counts₀ 0 len states counts₀
-  begins len states e slice = record {
-    text_fits = omega arith;
-    counts_fit = omega arith;
-    few = omega arith;
-    len_is = e;
-    out_of_form = λ o. refl;
-    size_kept = refl;
-    slice = slice;
-    beyond_kept = refl;
-    standing = λ n B. record { len_is = e; few = omega arith; records = λ j h. absurd (omega (arith, h)) };
-    counted = λ n B j h. absurd (omega (arith, h));
-  }
-
   module _ (octets : Octets text) (i len : ℕ) (states : List State) (counts : List ℕ) (K : Typing T side text counts₀ i len states counts) where
     -- the end, where the number of bytes is what it has to be
     pub ends : ((n : ℕ) → Built T n → i ≡ min (length text) (min (length counts₀) 4096))
         → TextTyped T side text counts₀ i counts
     ends e = record { at_most = omega (arith, K); out_of_form = K.out_of_form; size_kept = K.size_kept; beyond_kept = K.beyond_kept; typed = e; counted = K.counted }
-
-    -- the text, or the room for counts, is at its end
-    pub ends-all : (length text ≤ i) ⊎ (length counts₀ ≤ i) → TextTyped T side text counts₀ i counts
-    ends-all o = ends (λ n B. let few = (K.standing n B).few in ⊎_elim (λ h. omega (arith, K, few, h)) (λ h. omega (arith, K, few, h)) o)
 
     module _ (b : ℕ) (r : Answer) (len' : ℕ) (states' : List State) (X : Extended T side len states (b ∷ []) r len' states') where
       abbrev refusal : Option Cause

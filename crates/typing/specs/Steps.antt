@@ -23,13 +23,6 @@ pub record Room (k size : ℕ) : Type 0 where
   pub slice_fits : k ≤ size
   pub columns_fit : k ≤ 4096
 
--- the same, and the columns have all their numbers
-pub record ColumnsReady (k size : ℕ) (bytes codes counts : List ℕ) : Type 0 where
-  pub room : Room k size
-  pub bytes_long : length bytes ≡ 4096
-  pub codes_long : length codes ≡ 4096
-  pub counts_long : length counts ≡ 4096
-
 -- the columns have the fields of the first k records
 pub record Copied (states : List State) (k : ℕ) (bytes codes counts : List ℕ) : Type 0 where
   pub bytes_are : take k bytes ≡ take k (bytes_of states)

@@ -6,4 +6,4 @@ pub copy_out-requires : goal.copy_out-requires
 copy_out-requires c = ready _ _ _ c.usable.ensures
 
 pub returns : goal.returns
-returns c = token_counted _ _ _ _ _ _ _ _ _ _ c.length_of_head-len.ensures c.usable.ensures c.copy_out.ensures c.count_columns.ensures
+returns c = token_counted _ _ _ _ _ _ _ _ _ c.usable.ensures c.copy_out.ensures c.token_count.ensures

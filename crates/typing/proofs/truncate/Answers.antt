@@ -3,4 +3,4 @@ use Rattle.typing.proofs.Ending.{truncated}
 use Rattle.typing.proofs.truncate.Goals as goal
 
 pub returns : goal.returns
-returns c = truncated _ _ _ _ _ _ _ c.length_of_head-len.ensures c.cut-answer.ensures c.end_after.ensures c.head_with.ensures
+returns c = truncated _ _ _ _ _ c.cut-answer.ensures c.end_after-head.ensures

@@ -1,6 +1,4 @@
 -- `typing::type_text` meets its contract. The loop's invariant: i bytes are typed and their counts written. Assumes nothing.
-use Prim.Native.Nat.{◌-◌}
-use lib.ListN.{length}
 use Rattle.typing_columns.specs.Sides.{side_of}
 use Rattle.typing.proofs.Texting.{Typing}
 use Rattle.tables.specs.Tables.{tables}
@@ -8,6 +6,3 @@ use Rattle.typing.proofs.type_text.Given as goal
 
 abbrev pub invariant-loop-i : goal.invariant-loop-i
 invariant-loop-i l = Typing (tables l.file l.places l.lefts l.rights l.prefixes l.area) (side_of l.side) l.text l.initial.counts l.i l.head.len l.states l.counts
-
-abbrev pub decreases-loop-i : goal.decreases-loop-i
-decreases-loop-i l = length l.text - l.i

@@ -6,5 +6,5 @@ use Rattle.typing.proofs.usable.Goals as goal
 pub returns-then-head_out : goal.returns-then-head_out
 returns-then-head_out c = sym (usable_out _ _ (sym c.head_out.ensures ∙ c.if-head_out.true))
 
-pub returns : goal.returns
-returns c = sym (usable_in _ _ (sym c.head_out.ensures ∙ c.if-head_out.false))
+pub returns-else-head_out : goal.returns-else-head_out
+returns-else-head_out c = sym (usable_in _ _ (sym c.head_out.ensures ∙ c.if-head_out.false))

@@ -1,90 +1,76 @@
 // Works through the edges of the bit set and prints for each group whether it came out right.
-use bitfield::{Bit, BitField};
+use bitfield::BitField;
 use std::io;
-use words::say;
 
-fn is_at(found: Bit, place: usize) -> bool {
-    match found {
-        Bit::At(p) => p == place,
-        Bit::Nothing => false,
+// The bit set with all bits set but these.
+fn all_but(places: &[usize]) -> BitField {
+    let mut set = BitField::new();
+    for place in places {
+        set.clear(*place);
     }
-}
-
-fn is_nothing(found: Bit) -> bool {
-    match found {
-        Bit::At(_) => false,
-        Bit::Nothing => true,
-    }
+    set
 }
 
 // Each of the 4,097 bits is set at first.
 fn all_set() -> bool {
     let set = BitField::new();
-    for p in 0..4097 {
-        if !set.is_set(p) {
-            return false;
-        }
-    }
-    true
+    (0..4097).all(|place| set.is_set(place))
 }
 
 // Bit 4,096 is the last; clearing one beyond it changes nothing.
 fn beyond() -> bool {
-    let set = BitField::new().clear(4097).clear(usize::MAX);
+    let set = all_but(&[4097, usize::MAX]);
     set.is_set(4096)
         && !set.is_set(4097)
         && !set.is_set(usize::MAX)
-        && is_at(set.successor(0), 0)
-        && is_at(set.predecessor(usize::MAX), 4096)
+        && set.successor(0) == Some(0)
+        && set.predecessor(usize::MAX) == Some(4096)
 }
 
 // A bit stays clear when it is cleared twice, and its neighbours stay set.
 fn clear() -> bool {
-    let once = BitField::new().clear(64);
-    let twice = once.clear(64);
-    !once.is_set(64)
-        && !twice.is_set(64)
-        && twice.is_set(63)
-        && twice.is_set(65)
-        && !twice.clear(4096).is_set(4096)
+    let mut set = all_but(&[64]);
+    let once = !set.is_set(64);
+    set.clear(64);
+    let twice = !set.is_set(64) && set.is_set(63) && set.is_set(65);
+    set.clear(4096);
+    once && twice && !set.is_set(4096)
 }
 
 // The next set bit: the place itself, over the seams of the words, and none.
 fn successor() -> bool {
-    let set = BitField::new().clear(63).clear(4095);
-    let none = set.clear(4096);
-    is_at(set.successor(62), 62)
-        && is_at(set.successor(63), 64)
-        && is_at(set.successor(4095), 4096)
-        && is_nothing(set.successor(4097))
-        && is_nothing(none.successor(4095))
-        && is_nothing(none.successor(usize::MAX))
+    let set = all_but(&[63, 4095]);
+    let none = all_but(&[63, 4095, 4096]);
+    set.successor(62) == Some(62)
+        && set.successor(63) == Some(64)
+        && set.successor(4095) == Some(4096)
+        && set.successor(4097) == None
+        && none.successor(4095) == None
+        && none.successor(usize::MAX) == None
 }
 
 // The last set bit: the place itself, over the seams of the words, and none.
 fn predecessor() -> bool {
-    let set = BitField::new().clear(64).clear(4096);
-    let none = BitField::new().clear(0);
-    is_at(set.predecessor(63), 63)
-        && is_at(set.predecessor(64), 63)
-        && is_at(set.predecessor(4096), 4095)
-        && is_at(set.predecessor(usize::MAX), 4095)
-        && is_nothing(none.predecessor(0))
-}
-
-fn report(rt: &impl Print, name: &[u8], right: bool) -> io::Result<()> {
-    say(rt, name)?;
-    if right {
-        say(rt, b": ok\n")
-    } else {
-        say(rt, b": wrong\n")
-    }
+    let set = all_but(&[64, 4096]);
+    let none = all_but(&[0]);
+    set.predecessor(63) == Some(63)
+        && set.predecessor(64) == Some(63)
+        && set.predecessor(4096) == Some(4095)
+        && set.predecessor(usize::MAX) == Some(4095)
+        && none.predecessor(0) == None
 }
 
 pub(crate) fn work_through(rt: &impl Print) -> io::Result<()> {
-    report(rt, b"all set", all_set())?;
-    report(rt, b"beyond", beyond())?;
-    report(rt, b"clear", clear())?;
-    report(rt, b"successor", successor())?;
-    report(rt, b"predecessor", predecessor())
+    let groups = [
+        ("all set", all_set()),
+        ("beyond", beyond()),
+        ("clear", clear()),
+        ("successor", successor()),
+        ("predecessor", predecessor()),
+    ];
+    for (name, right) in groups {
+        let verdict = if right { "ok" } else { "wrong" };
+        println!(rt; "{name}: {verdict}")?;
+    }
+    Ok(())
 }

@@ -5,32 +5,21 @@ ghost use Rattle.fnv.specs.Fnv.{fnv_offset, fnv};
 
 use fnv::{OFFSET, fnv1a, hash_bytes, row_value};
 use std::io;
-use words::{say, say_number};
 
 const FACTOR: u64 = 0x9e37_79b9_7f4a_7c15;
 
-// Ends a line that has its name already.
-fn compare(rt: &impl Print, value: u64, width: usize, expected: u64) -> io::Result<()> {
-    print!(rt; ": {value:0width$x}")?;
-    if value == expected {
-        say(rt, b" ok\n")
-    } else {
-        say(rt, b" WRONG\n")
-    }
+// `ok` where a value is the expected one.
+fn verdict(value: u64, expected: u64) -> &'static str {
+    if value == expected { "ok" } else { "WRONG" }
 }
 
-fn quote(rt: &impl Print, text: &[u8]) -> io::Result<()> {
-    say(rt, b"\"")?;
-    say(rt, text)?;
-    say(rt, b"\"")
-}
-
-fn row(rt: &impl Print, bytes: &[u8], with_one: u32, with_factor: u32) -> io::Result<()> {
-    say(rt, b"row ")?;
-    quote(rt, bytes)?;
-    compare(rt, hash_bytes(bytes, 1) as u64, 8, with_one as u64)?;
-    say(rt, b"times 9e3779b97f4a7c15")?;
-    compare(rt, hash_bytes(bytes, FACTOR) as u64, 8, with_factor as u64)
+fn row(rt: &impl Print, text: &str, with_one: u32, with_factor: u32) -> io::Result<()> {
+    let value = hash_bytes(text.as_bytes(), 1);
+    let is_right = verdict(u64::from(value), u64::from(with_one));
+    println!(rt; "row \"{text}\": {value:08x} {is_right}")?;
+    let value = hash_bytes(text.as_bytes(), FACTOR);
+    let is_right = verdict(u64::from(value), u64::from(with_factor));
+    println!(rt; "times {FACTOR:x}: {value:08x} {is_right}")
 }
 
 // The values were computed apart from this code, in Python, from document 01's "Hash of a row":
@@ -38,16 +27,16 @@ fn row(rt: &impl Print, bytes: &[u8], with_one: u32, with_factor: u32) -> io::Re
 //     for b in len(row).to_bytes(8, "little") + row: h = (h ^ b) * 0x100000001b3 % 2**64
 //     h * factor % 2**64 >> 32
 fn rows(rt: &impl Print) -> io::Result<()> {
-    row(rt, b"", 0xa8c7_f832, 0xb499_1e24)?;
-    row(rt, b"a", 0x529a_4ddc, 0x81dc_ba3e)?;
-    row(rt, b"aa", 0x9c60_04d3, 0x72d5_f89e)?;
-    row(rt, b"ab", 0x9c60_01d3, 0x0a96_3704)?;
-    row(rt, b"bc", 0x9c5d_1ad3, 0xaad7_8e4d)?;
-    row(rt, b"cd", 0x9c58_f3d3, 0xdb32_e577)?;
-    row(rt, b"abcd", 0xb084_4143, 0x623d_882b)?;
+    row(rt, "", 0xa8c7_f832, 0xb499_1e24)?;
+    row(rt, "a", 0x529a_4ddc, 0x81dc_ba3e)?;
+    row(rt, "aa", 0x9c60_04d3, 0x72d5_f89e)?;
+    row(rt, "ab", 0x9c60_01d3, 0x0a96_3704)?;
+    row(rt, "bc", 0x9c5d_1ad3, 0xaad7_8e4d)?;
+    row(rt, "cd", 0x9c58_f3d3, 0xdb32_e577)?;
+    row(rt, "abcd", 0xb084_4143, 0x623d_882b)?;
     row(
         rt,
-        b"0123456789abcdef0123456789abcdef0123456789abcdef0123456789abcdef",
+        "0123456789abcdef0123456789abcdef0123456789abcdef0123456789abcdef",
         0x4188_3489,
         0x1dd5_fd30,
     )
@@ -58,23 +47,17 @@ fn in_two_parts(octets: &[u8], k: usize) -> u64
     requires { k ≤ length octets.now }
     ensures { result ≡ fnv fnv_offset octets.now }
 {
-    let first = fnv1a(OFFSET, &octets[..k]);
-    fnv1a(first, &octets[k..])
-}
-
-fn cut(rt: &impl Print, name: &[u8], k: usize, value: u64, expected: u64) -> io::Result<()> {
-    say(rt, name)?;
-    say(rt, b" cut at ")?;
-    say_number(rt, k as u64)?;
-    compare(rt, value, 16, expected)
+    let (head, tail) = octets.split_at(k);
+    let first = fnv1a(OFFSET, head);
+    fnv1a(first, tail)
 }
 
 // Every cut of the octets.
-fn cuts(rt: &impl Print, name: &[u8], octets: &[u8], expected: u64) -> io::Result<()> {
-    let mut k = 0;
-    while k <= octets.len() {
-        cut(rt, name, k, in_two_parts(octets, k), expected)?;
-        k += 1;
+fn cuts(rt: &impl Print, name: &str, octets: &[u8], expected: u64) -> io::Result<()> {
+    for k in 0..=octets.len() {
+        let value = in_two_parts(octets, k);
+        let is_right = verdict(value, expected);
+        println!(rt; "{name} cut at {k}: {value:016x} {is_right}")?;
     }
     Ok(())
 }
@@ -82,14 +65,14 @@ fn cuts(rt: &impl Print, name: &[u8], octets: &[u8], expected: u64) -> io::Resul
 // A row's value before the factor, and every cut of the octets that it is of.
 fn row_cuts(
     rt: &impl Print,
-    name: &[u8],
+    name: &str,
     bytes: &[u8],
     octets: &[u8],
     expected: u64,
 ) -> io::Result<()> {
-    say(rt, name)?;
-    say(rt, b" before the factor")?;
-    compare(rt, row_value(bytes), 16, expected)?;
+    let value = row_value(bytes);
+    let is_right = verdict(value, expected);
+    println!(rt; "{name} before the factor: {value:016x} {is_right}")?;
     cuts(rt, name, octets, expected)
 }
 
@@ -97,17 +80,17 @@ fn row_cuts(
 // octets are written out, the length low first.
 pub(crate) fn work_through(rt: &impl Print) -> io::Result<()> {
     rows(rt)?;
-    cuts(rt, b"\"foobar\"", b"foobar", 0x8594_4171_f739_67e8)?;
+    cuts(rt, "\"foobar\"", b"foobar", 0x8594_4171_f739_67e8)?;
     row_cuts(
         rt,
-        b"row \"ab\"",
+        "row \"ab\"",
         b"ab",
         b"\x02\0\0\0\0\0\0\0ab",
         0x9c60_01d3_28a9_4690,
     )?;
     row_cuts(
         rt,
-        b"row of 64 bytes",
+        "row of 64 bytes",
         b"0123456789abcdef0123456789abcdef0123456789abcdef0123456789abcdef",
         b"\x40\0\0\0\0\0\0\00123456789abcdef0123456789abcdef0123456789abcdef0123456789abcdef",
         0x4188_3489_e5e6_6325,

@@ -1,3 +1,2 @@
-pub mod Lists
 pub mod Meanings
 pub mod Sheets

@@ -1,13 +1,15 @@
 -- The steps of a line's meaning, and what each escape writes. Assumes nothing.
-use Rattle.std.proofs.Common.{◌≡◌, ℕ, ◌+◌, ◌*◌, ◌%◌, ◌<◌, ◌≤◌, Bool, cond, List, [], ◌∷◌, ◌++◌, length, get_or, take, drop, set, sym, refl, ap, ◌∙◌, add-one, arith, drop_of_length-le, length-take-le, drop-cons, take-suc-set, le-ltb, lt-ltb, eq-eqb, ne_eqb}
+use Rattle.std.proofs.Common.{◌≡◌, ℕ, ◌+◌, ◌*◌, ◌%◌, ◌<◌, ◌≤◌, Bool, cond, List, [], ◌∷◌, ◌++◌, length, get_or, take}
+use Rattle.std.proofs.Common.{drop, set, sym, refl, ap, ◌∙◌, add-one, arith, drop_of_length-le, length-take-le}
+use Rattle.std.proofs.Common.{drop-cons, take-suc-set, le-ltb, lt-ltb, Some, Result, Err}
 use Rattle.text_forms.specs.declared.escapes.Reading.{Reading}
 use Rattle.text_forms.specs.declared.escapes.Reading.TheVariants.{Plain, Escape, High, Low}
 use Rattle.text_forms.specs.declared.escapes.Step.{Step}
 use Rattle.text_forms.specs.declared.escapes.Step.TheVariants.{Writes, Goes, Wrong}
-use Rattle.text_forms.specs.declared.escapes.Digit.TheVariants.{Value}
-use Rattle.text_forms.specs.declared.escapes.Phrase.{Phrase}
-use Rattle.text_forms.specs.declared.escapes.Phrase.TheVariants.{Bytes, Empty, Long, WrongEscape}
-use Rattle.text_forms.specs.Escapes.{Meaning, whole, long, wrong, value_of, backslashed, first_digit, second_digit, step_of, ending, after, meaning, end_of, phrase_of, Unescaped}
+use Rattle.text_forms.specs.declared.escapes.PhraseError.{PhraseError}
+use Rattle.text_forms.specs.declared.escapes.PhraseError.TheVariants.{Long, WrongEscape}
+use Rattle.text_forms.specs.Escapes.{Meaning, whole, long, wrong, value_of, backslashed, first_digit, second_digit}
+use Rattle.text_forms.specs.Escapes.{step_of, ending, after, meaning, end_of, phrase_of, Unescaped}
 
 module _ (room : ℕ) (r : Reading) (w : List ℕ) (b : ℕ) (rest : List ℕ) where
   -- what a step does, once it is known
@@ -54,7 +56,7 @@ module _ (room : ℕ) (w rest : List ℕ) (h : length w < room) where
   backslash = step_goes room Plain w 92 (92 ∷ rest) Escape refl ∙ step_writes room Escape w 92 rest 92 refl h
 
   -- \xNN, by the values of its two digits
-  pub hex : (x y high low : ℕ) → value_of x ≡ Value high → value_of y ≡ Value low
+  pub hex : (x y high low : ℕ) → value_of x ≡ Some high → value_of y ≡ Some low
       → meaning room Plain w (92 ∷ 120 ∷ x ∷ y ∷ rest) ≡ meaning room Plain (w ++ ((high % 16 * 16 + low % 16) ∷ [])) rest
   unfolding step_of backslashed first_digit second_digit
   hex x y high low e f =
@@ -91,11 +93,11 @@ module _ (line out : List ℕ) (i size room : ℕ) (r : Reading) (m : Meaning) (
   gone-wrong e = sym at_next ∙ step-wrong room r (take size out) (get_or line i 0) (drop (i + 1) line) e
 
 -- a refusal: no bytes are promised
-pub refused-long : (line out out' : List ℕ) → meaning (length out) Plain [] line ≡ long → Unescaped line out out' Long
+pub refused-long : (line out out' : List ℕ) → meaning (length out) Plain [] line ≡ long → Unescaped line out out' (Err Long)
 unfolding phrase_of
 refused-long line out out' e = record { answer = ap phrase_of (sym e); bytes = λ (w : List ℕ) (f : meaning (length out) Plain [] line ≡ whole w). cc }
 
-pub refused-wrong : (line out out' : List ℕ) → meaning (length out) Plain [] line ≡ wrong → Unescaped line out out' WrongEscape
+pub refused-wrong : (line out out' : List ℕ) → meaning (length out) Plain [] line ≡ wrong → Unescaped line out out' (Err WrongEscape)
 unfolding phrase_of
 refused-wrong line out out' e = record { answer = ap phrase_of (sym e); bytes = λ (w : List ℕ) (f : meaning (length out) Plain [] line ≡ whole w). cc }
 
@@ -110,7 +112,7 @@ ends-bytes High out size h w e = cc
 ends-bytes (Low v) out size h w e = cc
 
 -- the answer at the end of a line
-pub finished : (line out out' : List ℕ) (i size : ℕ) (r : Reading) (p : Phrase) → p ≡ end_of r size → length line ≤ i → size ≤ length out → length out' ≡ length out
+pub finished : (line out out' : List ℕ) (i size : ℕ) (r : Reading) (p : Result ℕ PhraseError) → p ≡ end_of r size → length line ≤ i → size ≤ length out → length out' ≡ length out
     → meaning (length out) r (take size out') (drop i line) ≡ meaning (length out) Plain [] line → Unescaped line out out' p
 unfolding meaning
 finished line out out' i size r p answered h most same is =
@@ -121,47 +123,3 @@ finished line out out' i size r p answered h most same is =
       answer = answered ∙ ap (end_of r) (sym k) ∙ end_is (length out) r (take size out') ∙ ap phrase_of (sym e);
       bytes = λ (w : List ℕ) (f : meaning (length out) Plain [] line ≡ whole w). ends-bytes r out' size (omega (arith, same, most)) w (sym e ∙ f);
     }
-
--- what a byte does, by where the reader stands
-module _ (r : Reading) (b : ℕ) where
-  pub plain_escape : r ≡ Plain → b ≡ 92 → Goes Escape ≡ step_of r b
-  unfolding step_of
-  plain_escape e f = ap (λ (t : Bool). cond t (Goes Escape) (Writes b)) (sym (eq-eqb b 92 f)) ∙ ap (λ (x : Reading). step_of x b) (sym e)
-
-  pub plain_byte : r ≡ Plain → (b ≡ 92 → ⊥) → Writes b ≡ step_of r b
-  unfolding step_of
-  plain_byte e f = ap (λ (t : Bool). cond t (Goes Escape) (Writes b)) (sym (ne_eqb b 92 f)) ∙ ap (λ (x : Reading). step_of x b) (sym e)
-
-  pub escape_byte : (s : Step) → r ≡ Escape → s ≡ backslashed b → s ≡ step_of r b
-  unfolding step_of
-  escape_byte s e f = f ∙ ap (λ (x : Reading). step_of x b) (sym e)
-
-  pub high_byte : (s : Step) → r ≡ High → s ≡ first_digit (value_of b) → s ≡ step_of r b
-  unfolding step_of
-  high_byte s e f = f ∙ ap (λ (x : Reading). step_of x b) (sym e)
-
-  pub low_byte : (s : Step) (h : ℕ) → r ≡ Low h → s ≡ second_digit h (value_of b) → s ≡ step_of r b
-  unfolding step_of
-  low_byte s h e f = f ∙ ap (λ (x : Reading). step_of x b) (sym e)
-
--- what is answered at the end of a line
-module _ (r : Reading) (size : ℕ) where
-  pub end_empty : r ≡ Plain → size ≡ 0 → Empty ≡ end_of r size
-  unfolding end_of
-  end_empty e f = ap (λ (t : Bool). cond t Empty (Bytes size)) (sym (eq-eqb size 0 f)) ∙ ap (λ (x : Reading). end_of x size) (sym e)
-
-  pub end-bytes : r ≡ Plain → (size ≡ 0 → ⊥) → Bytes size ≡ end_of r size
-  unfolding end_of
-  end-bytes e f = ap (λ (t : Bool). cond t Empty (Bytes size)) (sym (ne_eqb size 0 f)) ∙ ap (λ (x : Reading). end_of x size) (sym e)
-
-  pub end_escape : r ≡ Escape → WrongEscape ≡ end_of r size
-  unfolding end_of
-  end_escape e = ap (λ (x : Reading). end_of x size) (sym e)
-
-  pub end-high : r ≡ High → WrongEscape ≡ end_of r size
-  unfolding end_of
-  end-high e = ap (λ (x : Reading). end_of x size) (sym e)
-
-  pub end_low : (h : ℕ) → r ≡ Low h → WrongEscape ≡ end_of r size
-  unfolding end_of
-  end_low h e = ap (λ (x : Reading). end_of x size) (sym e)

@@ -1,19 +1,19 @@
 -- The phrases that the lines of a sheet say, and the phrase file of them.
 use Rattle.std.specs.Prelude.{◌≡◌, ℕ, ◌+◌, ◌-◌, ◌≤◌, cond, List, [], ◌∷◌, ◌++◌, length, take, drop, ◌==◌, slice_index}
+use Rattle.std.specs.Prelude.{Result, IfOk}
 use Rattle.words.specs.Parts.{count_before}
 use Rattle.text_forms.specs.declared.escapes.Reading.TheVariants.{Plain}
-use Rattle.text_forms.specs.declared.sheet.Added.{Added}
-use Rattle.text_forms.specs.declared.sheet.Added.TheVariants.{Size}
+use Rattle.text_forms.specs.declared.sheet.LineError.{LineError}
 use Rattle.text_forms.specs.declared.sheet.Made.{Made}
-use Rattle.text_forms.specs.declared.sheet.Made.TheVariants.{Rows}
+use Rattle.text_forms.specs.declared.sheet.SheetError.{SheetError}
 use Rattle.text_forms.specs.Escapes.{meaning, whole}
 
 -- a line without the CR at its end
-unfoldable pub without_return : List ℕ → List ℕ
+abbrev pub without_return : List ℕ → List ℕ
 without_return s = cond (slice_index s (length s - 1) == 13) (take (length s - 1) s) s
 
 -- the escaped bytes of a line: what stands before the first tab
-unfoldable pub escaped : List ℕ → List ℕ
+abbrev pub escaped : List ℕ → List ℕ
 escaped line = take (count_before 9 (without_return line)) (without_return line)
 
 -- the first line of a text, and those after it
@@ -55,11 +55,11 @@ pub record LineRecorded (line file : List ℕ) (at : ℕ) (file' : List ℕ) (en
   pub recorded : Recorded file at phrase file' end
 
 -- what adding a phrase, and a line, answers and writes
-abbrev pub PhraseAdded : (w file : List ℕ) (at : ℕ) (file' : List ℕ) (r : Added) → Type 0
-PhraseAdded w file at file' r = length w ≤ 64 → (end : ℕ) → r ≡ Size end → Recorded file at w file' end
+abbrev pub PhraseAdded : (w file : List ℕ) (at : ℕ) (file' : List ℕ) (r : Result ℕ LineError) → Type 0
+PhraseAdded w file at file' r = length w ≤ 64 → IfOk r (Recorded file at w file')
 
-abbrev pub LineAdded : (line file : List ℕ) (at : ℕ) (file' : List ℕ) (r : Added) → Type 0
-LineAdded line file at file' r = (end : ℕ) → r ≡ Size end → LineRecorded line file at file' end
+abbrev pub LineAdded : (line file : List ℕ) (at : ℕ) (file' : List ℕ) (r : Result ℕ LineError) → Type 0
+LineAdded line file at file' r = IfOk r (LineRecorded line file at file')
 
 -- the front of a buffer is the file of the phrases that a sheet says, so many
 pub record Filled (sheet file' : List ℕ) (rows size : ℕ) : Type 0 where
@@ -70,6 +70,6 @@ pub record Filled (sheet file' : List ℕ) (rows size : ℕ) : Type 0 where
   pub written : take size file' ≡ file_of phrases
 
 -- what `make_file` answers and writes
-pub record FileMade (sheet file file' : List ℕ) (r : Made) : Type 0 where
+pub record FileMade (sheet file file' : List ℕ) (r : Result Made SheetError) : Type 0 where
   pub same : length file' ≡ length file
-  pub made : (rows size : ℕ) → r ≡ Rows rows size → Filled sheet file' rows size
+  pub made : IfOk r (λ m. Filled sheet file' m.rows m.size)

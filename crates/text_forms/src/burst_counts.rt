@@ -6,18 +6,12 @@ ghost use Rattle.text_forms.specs.Bursts.{bursts_of, left_of};
 pub fn bursts(count: usize) -> usize
     ensures { result ≡ bursts_of count }
 {
-    if count % 40 == 0 {
-        return count / 40;
-    }
-    count / 40 + 1
+    count.div_ceil(40)
 }
 
 // How many codes the last of these bursts still has room for.
 pub fn left(count: usize) -> usize
     ensures { result ≡ left_of count }
 {
-    if count % 40 == 0 {
-        return 0;
-    }
-    40 - count % 40
+    (40 - count % 40) % 40
 }

@@ -6,7 +6,7 @@ ghost use Rattle.text_forms.specs.Escapes.{Unescaped};
 
 // Where a reader stands: outside an escape, after its backslash, after \x, after \x and the first digit, whose value
 // is held.
-#[derive(Drop)]
+#[derive(Clone, Copy)]
 pub enum Reading {
     Plain,
     Escape,
@@ -15,25 +15,16 @@ pub enum Reading {
 }
 
 // What the next byte does: it writes a byte, and an escape ends; it leads further into an escape; it is wrong.
-#[derive(Drop)]
+#[derive(Clone, Copy)]
 pub enum Step {
     Writes(u8),
     Goes(Reading),
     Wrong,
 }
 
-// A hex digit's value.
-#[derive(Drop)]
-pub enum Digit {
-    Value(u8),
-    Nothing,
-}
-
-// What a phrase is.
-#[derive(Drop)]
-pub enum Phrase {
-    // So many bytes.
-    Bytes(usize),
+// Why a line is no phrase.
+#[derive(Clone, Copy, Debug, PartialEq, Eq)]
+pub enum PhraseError {
     Empty,
     // More bytes than the buffer has room for.
     Long,
@@ -41,47 +32,28 @@ pub enum Phrase {
 }
 
 // The value of a hex digit, small or large.
-fn hex_value(byte: u8) -> Digit
+fn hex_value(byte: u8) -> Option<u8>
     ensures { result ≡ value_of byte }
 {
-    if byte < b'0' {
-        return Digit::Nothing;
+    match byte {
+        b'0'..=b'9' => Some(byte - b'0'),
+        b'A'..=b'F' => Some(byte - b'A' + 10),
+        b'a'..=b'f' => Some(byte - b'a' + 10),
+        _ => None,
     }
-    if byte <= b'9' {
-        return Digit::Value(byte - b'0');
-    }
-    if byte < b'A' {
-        return Digit::Nothing;
-    }
-    if byte <= b'F' {
-        return Digit::Value(byte - 55);
-    }
-    if byte < b'a' {
-        return Digit::Nothing;
-    }
-    if byte <= b'f' {
-        return Digit::Value(byte - 87);
-    }
-    Digit::Nothing
 }
 
 // The byte after a backslash.
 fn after_backslash(byte: u8) -> Step
     ensures { result ≡ backslashed byte }
 {
-    if byte == b'x' {
-        return Step::Goes(Reading::High);
+    match byte {
+        b'x' => Step::Goes(Reading::High),
+        b't' => Step::Writes(b'\t'),
+        b'n' => Step::Writes(b'\n'),
+        b'\\' => Step::Writes(b'\\'),
+        _ => Step::Wrong,
     }
-    if byte == b't' {
-        return Step::Writes(9);
-    }
-    if byte == b'n' {
-        return Step::Writes(10);
-    }
-    if byte == b'\\' {
-        return Step::Writes(92);
-    }
-    Step::Wrong
 }
 
 // The first digit of \xNN.
@@ -89,8 +61,8 @@ fn first_digit(byte: u8) -> Step
     ensures { result ≡ first_digit (value_of byte) }
 {
     match hex_value(byte) {
-        Digit::Value(value) => Step::Goes(Reading::Low(value)),
-        Digit::Nothing => Step::Wrong,
+        Some(value) => Step::Goes(Reading::Low(value)),
+        None => Step::Wrong,
     }
 }
 
@@ -99,8 +71,8 @@ fn second_digit(high: u8, byte: u8) -> Step
     ensures { result ≡ second_digit high (value_of byte) }
 {
     match hex_value(byte) {
-        Digit::Value(low) => Step::Writes(high % 16 * 16 + low % 16),
-        Digit::Nothing => Step::Wrong,
+        Some(low) => Step::Writes(high % 16 * 16 + low % 16),
+        None => Step::Wrong,
     }
 }
 
@@ -109,62 +81,43 @@ fn take_byte(reading: Reading, byte: u8) -> Step
     ensures { result ≡ step_of reading byte }
 {
     match reading {
-        Reading::Plain => {
-            if byte == b'\\' {
-                return Step::Goes(Reading::Escape);
-            }
-            Step::Writes(byte)
-        }
+        Reading::Plain if byte == b'\\' => Step::Goes(Reading::Escape),
+        Reading::Plain => Step::Writes(byte),
         Reading::Escape => after_backslash(byte),
         Reading::High => first_digit(byte),
         Reading::Low(high) => second_digit(high, byte),
     }
 }
 
-// What a phrase is once all its bytes are read.
-fn ended(reading: Reading, size: usize) -> Phrase
+// What a phrase of so many bytes is once all of its line is read.
+fn ended(reading: Reading, size: usize) -> Result<usize, PhraseError>
     ensures { result ≡ end_of reading size }
 {
     match reading {
-        Reading::Plain => {
-            if size == 0 {
-                return Phrase::Empty;
-            }
-            Phrase::Bytes(size)
-        }
-        Reading::Escape => Phrase::WrongEscape,
-        Reading::High => Phrase::WrongEscape,
-        Reading::Low(_) => Phrase::WrongEscape,
+        Reading::Plain if size == 0 => Err(PhraseError::Empty),
+        Reading::Plain => Ok(size),
+        Reading::Escape | Reading::High | Reading::Low(_) => Err(PhraseError::WrongEscape),
     }
 }
 
-// Writes the bytes of an escaped phrase to the front of a buffer, as many as it has room for.
-pub fn unescape(line: &[u8], out: &mut [u8]) -> Phrase
+// Writes the bytes of an escaped phrase to the front of a buffer, as many as it has room for, and gives their number.
+pub fn unescape(line: &[u8], out: &mut [u8]) -> Result<usize, PhraseError>
     ensures { Unescaped line.now out.old out.new result }
 {
     let mut reading = Reading::Plain;
     let mut size = 0;
-    let mut i = 0;
-    while i < line.len() {
-        match take_byte(reading, line[i]) {
-            Step::Writes(byte) => {
+    for byte in line {
+        match take_byte(reading, *byte) {
+            Step::Writes(written) => {
                 if out.len() <= size {
-                    return Phrase::Long;
+                    return Err(PhraseError::Long);
                 }
-                out[size] = byte;
+                out[size] = written;
                 size += 1;
                 reading = Reading::Plain;
-                i += 1;
-                continue;
             }
-            Step::Goes(next) => {
-                reading = next;
-                i += 1;
-                continue;
-            }
-            Step::Wrong => {
-                return Phrase::WrongEscape;
-            }
+            Step::Goes(next) => reading = next,
+            Step::Wrong => return Err(PhraseError::WrongEscape),
         }
     }
     ended(reading, size)

@@ -11,7 +11,7 @@ mod page;
 mod sheet;
 
 pub use burst_counts::{bursts, left};
-pub use code_list::{Codes, Listed, list_codes, run};
-pub use escapes::{Phrase, unescape};
+pub use code_list::{Codes, WrongWord, list_codes, run};
+pub use escapes::{PhraseError, unescape};
 pub use page::put_page;
-pub use sheet::{Made, make_file};
+pub use sheet::{LineError, Made, SheetError, make_file};

@@ -5,4 +5,7 @@ use Rattle.words.proofs.Digits.{digits_after_none}
 use Rattle.words.proofs.numbers.number.Goals as goal
 
 pub returns-in_err-value : goal.returns-in_err-value
-returns-in_err-value c = let h = c.loop-byte.invariant in let e = c.add_digit.ensures in grind (arith, common_steps, digits_after_none)
+returns-in_err-value c =
+    let h = c.loop-byte.invariant in
+    let e = c.add_digit.ensures in
+    grind (arith, common_steps, digits_after_none)

@@ -7,6 +7,7 @@ use Rattle.words.proofs.parts.count_before.Goals as goal
 
 pub returns : goal.returns
 returns c =
-    count_before_is _ _ _ _ (position_from_yields_List (λ x. eqb x c.args.byte) _ _ c.position.result c.position.ensures.ran
+    count_before_is _ _ _ _
+    (position_from_yields_List (λ x. eqb x c.args.byte) _ _ c.position.result c.position.ensures.ran
     (YieldsList-from_slice c.args.s.now cc) (λ x b q k. search (rules, tests)))
     c.unwrap_or.ensures

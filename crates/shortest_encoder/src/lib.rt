@@ -3,22 +3,12 @@
 // least entry of a place is the one that document 01 wants of a tie.
 #![tactic(auto)]
 
-ghost use Rattle.std.specs.Prelude.{◌≡◌, ℕ, ◌≤◌, ◌<◌, min, length, drop};
-ghost use Rattle.marks.specs.Layout.{area_size};
-ghost use Rattle.placed_rows.specs.Rows.{Placed};
-ghost use Rattle.search_area.specs.Answers.{NextMatch};
+ghost use Rattle.std.specs.Prelude.{◌≡◌, ◌≤◌, ◌<◌, length};
 ghost use Rattle.shortest_encoder.specs.Encoders.{EntriesReady, MinimalReady, MinimalIs, GreedyReady, GreedyIs};
 ghost use Rattle.shortest_encoder.specs.Entries.{entry_of, count_from, EntryReady, EntryIs, Entries, CodesReady};
 ghost use Rattle.shortest_encoder.specs.Entries.{CodesRead};
 
-use placed_rows::{Match, NONE};
-
-// The lesser of two entries.
-fn lesser(a: u32, b: u32) -> u32
-    ensures { result ≡ min a b }
-{
-    if a < b { a } else { b }
-}
+use placed_rows::NONE;
 
 // The entry of count codes, the first of which is row, of len bytes. Of two entries of a place the lesser one has
 // fewer codes, or as many and the longer row.
@@ -76,7 +66,7 @@ fn best_at(
         len = longer.len;
         let count = codes_behind(text, work, i + len) + 1;
         let entry = entry_of(count, len, row);
-        best = lesser(best, entry);
+        best = best.min(entry);
     }
     best
 }
@@ -87,9 +77,7 @@ fn fill_entries(file: &[u8], places: &[u32], area: &[u32], n: usize, text: &[u8]
     ensures { Entries file.now places.now area.now n text.now
         work.old work.new }
 {
-    let mut i = text.len();
-    while i > 0 {
-        i -= 1;
+    for i in (0..text.len()).rev() {
         let entry = best_at(file, places, area, n, text, i, work);
         work[i] = entry;
     }
@@ -131,31 +119,6 @@ pub fn encode_minimal_core(
     read_codes(text, work, out)
 }
 
-// The longest row that begins the text from at on, with its length, or NONE and 0. The rows are met, shortest first,
-// until none is longer or the text ends.
-fn longest_at(file: &[u8], places: &[u32], area: &[u32], n: usize, text: &[u8], at: usize) -> Match
-    requires placed { Placed file.now places.now n }
-    requires area_size_in_bounds { (area_size ≤ length area.now) × (at ≤ length text.now) }
-    ensures { NextMatch file.now places.now n area.now
-        (drop at text.now) result.row result.len }
-{
-    let first = search_area::first_match(file, places, area, n, text, at);
-    if first.row == NONE {
-        return Match { row: NONE, len: 0 };
-    }
-    let mut row = first.row;
-    let mut len = first.len;
-    while at + len < text.len() {
-        let longer = search_area::longer_match(file, places, area, n, row, len, text, at);
-        if longer.row == NONE {
-            return Match { row: row, len: len };
-        }
-        row = longer.row;
-        len = longer.len;
-    }
-    Match { row: row, len: len }
-}
-
 // The longest row at each place into out, and how many.
 pub fn encode_greedy_core(
     file: &[u8],
@@ -172,7 +135,7 @@ pub fn encode_greedy_core(
     let mut at = 0;
     let mut count = 0;
     while at < text.len() {
-        let next = longest_at(file, places, area, n, text, at);
+        let next = search_area::next_match(file, places, area, n, text, at);
         if next.row == NONE {
             // Never on the tables of a build: each byte has a row.
             return count;

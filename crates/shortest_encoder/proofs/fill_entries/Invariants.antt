@@ -4,6 +4,3 @@ use Rattle.shortest_encoder.proofs.fill_entries.Given as goal
 
 abbrev pub invariant-loop-i : goal.invariant-loop-i
 invariant-loop-i l = Placing l.file l.places l.area l.n l.text l.initial.work l.work l.i
-
-abbrev pub decreases-loop-i : goal.decreases-loop-i
-decreases-loop-i l = l.i

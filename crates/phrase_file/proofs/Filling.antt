@@ -21,6 +21,9 @@ module _ (w d : List ℕ) (room : length w ≤ length d) where
     pub filled-length : length now ≡ length d
     filled-length = ap length f.is ∙ simp (length-append, length-drop, length-take-le n w f.few) (omega arith)
 
+    pub filled-count : n + length rest ≡ length w
+    filled-count = omega (arith, f.few, simp length-drop at (ap length f.left))
+
     pub filled-all : rest ≡ [] → now ≡ w ++ drop (length w) d
     filled-all e =
         let l : n ≡ length w = omega (arith, f.few, simp length-drop at (ap length (f.left ∙ e))) in

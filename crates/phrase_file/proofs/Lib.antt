@@ -1,5 +1,6 @@
 pub mod Records
 pub mod Places
+pub mod Walking
 pub mod Chain
 pub mod Rows
 pub mod Bytes

@@ -5,7 +5,7 @@ use mathlib.Core.Logic.{◌⊎◌, inl, inr, ⊎_elim}
 use Prim.Native.Nat.{ℕ, zero, suc, ◌+◌, ◌-◌, ◌<◌, ◌≤◌}
 use native.Mathlib.Nat.{eq-zero-or-pos}
 use native.Mathlib.Omega.{arith}
-use lib.ListN.{length, get_or}
+use lib.ListN.{length}
 use Rattle.phrase_file.specs.Form.{row_length, places_within, places_from, end_after}
 use Rattle.phrase_file.proofs.Records.{row-whole, length-byte, some_record, no_record}
 
@@ -98,16 +98,3 @@ module _ (file : List ℕ) where
       go zero at h = none at (none_found at (past_end at (omega arith)))
       go (suc k) at h =
           ⊎_elim (none at) (λ r. let i = r.inside in some at (row_length file at) r (go k (at + 3 + row_length file at) (omega arith))) (step at)
-
--- the place of row i, counted from an offset on
-
-module _ (file : List ℕ) (at i d : ℕ) where
-  pub place_none : NoRow file at → d ≡ get_or (places_from file at) i d
-  place_none n = rw n.places_are
-
-  module _ (m : ℕ) (r : Row file at m) where
-    pub place_here : i ≡ 0 → at ≡ get_or (places_from file at) i d
-    place_here e = rw (e, r.places_are)
-
-    pub place-later : (i ≡ 0 → ⊥) → get_or (places_from file (at + 3 + m)) (i - 1) d ≡ get_or (places_from file at) i d
-    place-later n = let e : i ≡ suc (i - 1) = omega arith in rw r.places_are (ap (λ (j : ℕ). get_or (at ∷ places_from file (at + 3 + m)) j d) (sym e))

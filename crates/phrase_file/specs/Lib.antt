@@ -1,3 +1,4 @@
 pub mod Form
 pub mod Checks
 pub mod Post
+pub mod Walk

@@ -52,6 +52,46 @@ pub fn row_bytes(file: &[u8], at: usize) -> &[u8]
     &file[start..end]
 }
 
+// The records that follow each other from an offset on, by their places. Where there is none left, the offset is where
+// the records end.
+#[derive(Drop)]
+struct FileRecords<'a> {
+    file: &'a [u8],
+    at: usize,
+}
+
+impl<'a> FileRecords<'a> {
+    // The records of a file.
+    fn new(file: &'a [u8]) -> FileRecords<'a>
+        ensures file_is { result.file.now ≡ file.now }
+        ensures at_start { result.at ≡ 0 }
+    {
+        FileRecords { file, at: 0 }
+    }
+}
+
+impl<'a> Iterator for FileRecords<'a> {
+    ghost use Rattle.std.specs.Iterator.{item_count};
+    ghost use Rattle.phrase_file.specs.Walk.{places_left, Walks};
+
+    type Item = usize;
+
+    ghost next_gives = { Walks };
+
+    ghost remaining = { item_count places_left };
+
+    #[inline(always)]
+    fn next(&mut self) -> Option<usize> {
+        let length = row_length(self.file, self.at);
+        if length == 0 {
+            return None;
+        }
+        let place = self.at;
+        self.at = place + 3 + length;
+        Some(place)
+    }
+}
+
 // How many records follow each other from the file's start, where they end, and which byte values have a row.
 #[derive(Drop)]
 pub struct FileScan {
@@ -64,19 +104,20 @@ pub fn scan(file: &[u8]) -> FileScan
     ensures { Scanned file.now result.n result.end result.seen }
 {
     let mut seen = [false; 256];
-    let mut at: usize = 0;
-    let mut n: usize = 0;
-    loop {
-        let length = row_length(file, at);
-        if length == 0 {
-            return FileScan { n, end: at, seen };
-        }
+    let mut records = FileRecords::new(file);
+    let mut n = 0;
+    while let Some(place) = records.next() {
+        let length = file[place + 2];
         if length == 1 {
-            let byte = file[at + 3] as usize;
+            let byte = file[place + 3] as usize;
             seen[byte] = true;
         }
-        at = at + 3 + length;
         n += 1;
+    }
+    FileScan {
+        n,
+        end: records.at,
+        seen,
     }
 }
 
@@ -91,19 +132,7 @@ pub fn num_rows(file: &[u8]) -> usize
 pub fn row_offset(file: &[u8], row: usize) -> usize
     ensures { result ≡ get_or (places file.now) row (length file.now) }
 {
-    let mut at: usize = 0;
-    let mut left = row;
-    loop {
-        let length = row_length(file, at);
-        if length == 0 {
-            return file.len();
-        }
-        if left == 0 {
-            return at;
-        }
-        at = at + 3 + length;
-        left -= 1;
-    }
+    FileRecords::new(file).nth(row).unwrap_or(file.len())
 }
 
 // Writes the places of the rows to the front of a table.
@@ -112,16 +141,8 @@ pub fn fill_places(file: &[u8], table: &mut [u32])
     ensures { table.new ≡ places file.now ++ drop (length (places file.now))
         table.old }
 {
-    let mut at: usize = 0;
-    let mut row: usize = 0;
-    loop {
-        let length = row_length(file, at);
-        if length == 0 {
-            return;
-        }
-        table[row] = at as u32;
-        at = at + 3 + length;
-        row += 1;
+    for (row, place) in FileRecords::new(file).enumerate() {
+        table[row] = place as u32;
     }
 }
 

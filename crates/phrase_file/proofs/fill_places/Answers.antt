@@ -1,68 +1,50 @@
--- Each turn writes the next place: the laws of places and of a table that is filled. Assumes nothing.
-use mathlib.Core.Path.{◌≡◌, sym, ◌∙◌}
-use Prim.Native.Nat.{◌<◌}
+-- Each turn writes the next place: the laws of a table that is filled. Assumes nothing.
+use mathlib.Core.Path.{◌≡◌, ap, ◌∙◌}
+use mathlib.Core.Logic.{inl}
+use Prim.Native.Nat.{◌+◌}
 use native.Mathlib.Omega.{arith}
-use lib.ListN.{length}
-use borrow.Author.Rules.{rules}
+use lib.ListN.{length, set}
+use Rattle.std.specs.Iterator.Adapters.{enumerate_source, enumerate_count}
+use Rattle.phrase_file.specs.declared.FileRecords.{FileRecords}
 use Rattle.phrase_file.specs.Form.{places}
-use Rattle.phrase_file.proofs.Places.{Row, row-found, none_found}
-use Rattle.phrase_file.proofs.Filling.{filled-start, filled-length, filled-all, filled-below, filled_more}
+use Rattle.phrase_file.specs.Walk.{places_left}
+use Rattle.phrase_file.proofs.Filling.{Filled, filled-start, filled-count, filled-all, filled_more}
+use Rattle.phrase_file.proofs.Walking.{Passed, passed, left_behind, none-left, all-left}
 use Rattle.phrase_file.proofs.fill_places.Goals as goal
 
-pub loop-at-init : goal.loop-at-init
-unfolding places
-loop-at-init c = (search rules, filled-start _ _ c.requires.room)
-
-pub shape_of-table-then-length-eq0 : goal.shape_of-table-then-length-eq0
-shape_of-table-then-length-eq0 c =
-    let kept : length c.loop-at.table ≡ length c.args.table.now = filled-length _ _ c.requires.room _ _ _ c.loop-at.invariant.1 in
-    kept
-
-pub returns-then-length-eq0 : goal.returns-then-length-eq0
-returns-then-length-eq0 c = filled-all _ _ c.requires.room _ _ _ c.loop-at.invariant.1 (none_found _ _ (sym c.row_length-length.ensures ∙ c.if-length-eq0.true)).places_are
+pub loop-row-init : goal.loop-row-init
+loop-row-init c =
+    let it = c.into_iter-row-iterator.result in
+    let source : enumerate_source it ≡ c.new.result = ap enumerate_source c.into_iter-row-iterator.ensures.into_iter_gives ∙ c.enumerate-row-items.ensures.source in
+    let zero : enumerate_count it ≡ 0 = ap enumerate_count c.into_iter-row-iterator.ensures.into_iter_gives ∙ c.enumerate-row-items.ensures.count in
+    let same : (enumerate_source it).file.now ≡ c.args.file.now = ap (λ (s : FileRecords). s.file.now) source ∙ c.new.ensures.file_is in
+    let all : places_left (enumerate_source it) ≡ places c.args.file.now = all-left _ (enumerate_source it) same (ap (λ (s : FileRecords). s.at) source ∙ c.new.ensures.at_start) in
+    record {
+      can = (tt, tt, inl (omega (arith, zero, ap length all, c.requires.room)));
+      ends = tt;
+      same = same;
+      filled = rw (zero, all) (filled-start _ _ c.requires.room);
+    }
 
 pub overflow_cast-table : goal.overflow_cast-table
 overflow_cast-table c =
-    let turn : Row c.args.file.now c.loop-at.at c.row_length-length.result = row-found _ _ _ c.row_length-length.ensures c.if-length-eq0.false in
-    omega (arith, turn, c.requires.short)
+    let turn : Passed c.args.file.now (enumerate_source c.loop-row.row-iterator) c.in-Some.place (enumerate_source c.next.new.self) =
+    passed _ _ _ _ c.loop-row.invariant.same c.in-Some.ensures.steps.0 in
+    omega (arith, turn.row, c.requires.short)
 
-pub offset_bounds-table-row : goal.offset_bounds-table-row
-offset_bounds-table-row c =
-    let kept : length c.loop-at.table ≡ length c.args.table.now = filled-length _ _ c.requires.room _ _ _ c.loop-at.invariant.1 in
-    let turn : Row c.args.file.now c.loop-at.at c.row_length-length.result = row-found _ _ _ c.row_length-length.ensures c.if-length-eq0.false in
-    let below : c.loop-at.row < length (places c.args.file.now) = filled-below _ _ c.requires.room _ _ _ c.loop-at.invariant.1 _ _ (turn).places_are in
-    omega (arith, below, kept, c.requires.room)
+pub loop-row-preserved : goal.loop-row-preserved
+loop-row-preserved c =
+    let w = c.in-Some.ensures.steps in
+    let turn = passed _ _ _ _ c.loop-row.invariant.same w.0 in
+    let next : Filled (places c.args.file.now) c.args.table.now (enumerate_count c.loop-row.row-iterator + 1) (places_left (enumerate_source c.next.new.self))
+    (set c.loop-row.table (enumerate_count c.loop-row.row-iterator) c.in-Some.place) =
+    filled_more _ _ c.requires.room _ _ _ c.loop-row.invariant.filled _ _ (left_behind _ _ _ w.0) in
+    record {
+      can = (tt, tt, inl (omega (arith, w.2, filled-count _ _ c.requires.room _ _ _ next, c.requires.room)));
+      ends = tt;
+      same = turn.same;
+      filled = rw (w.2, w.1) next;
+    }
 
-pub bounds-table-row : goal.bounds-table-row
-bounds-table-row c =
-    let kept : length c.loop-at.table ≡ length c.args.table.now = filled-length _ _ c.requires.room _ _ _ c.loop-at.invariant.1 in
-    let turn : Row c.args.file.now c.loop-at.at c.row_length-length.result = row-found _ _ _ c.row_length-length.ensures c.if-length-eq0.false in
-    let below : c.loop-at.row < length (places c.args.file.now) = filled-below _ _ c.requires.room _ _ _ c.loop-at.invariant.1 _ _ (turn).places_are in
-    omega (arith, below, kept, c.requires.room)
-
-pub overflow_add-at : goal.overflow_add-at
-overflow_add-at c =
-    let turn : Row c.args.file.now c.loop-at.at c.row_length-length.result = row-found _ _ _ c.row_length-length.ensures c.if-length-eq0.false in
-    omega (arith, turn)
-
-pub overflow_add-at-in-loop-at : goal.overflow_add-at-in-loop-at
-overflow_add-at-in-loop-at c =
-    let turn : Row c.args.file.now c.loop-at.at c.row_length-length.result = row-found _ _ _ c.row_length-length.ensures c.if-length-eq0.false in
-    omega (arith, turn)
-
-pub overflow_add-row : goal.overflow_add-row
-overflow_add-row c =
-    let kept : length c.loop-at.table ≡ length c.args.table.now = filled-length _ _ c.requires.room _ _ _ c.loop-at.invariant.1 in
-    let turn : Row c.args.file.now c.loop-at.at c.row_length-length.result = row-found _ _ _ c.row_length-length.ensures c.if-length-eq0.false in
-    let below : c.loop-at.row < length (places c.args.file.now) = filled-below _ _ c.requires.room _ _ _ c.loop-at.invariant.1 _ _ (turn).places_are in
-    omega (arith, below, kept)
-
-pub loop-at-smaller : goal.loop-at-smaller
-loop-at-smaller c =
-    let turn : Row c.args.file.now c.loop-at.at c.row_length-length.result = row-found _ _ _ c.row_length-length.ensures c.if-length-eq0.false in
-    omega (arith, turn)
-
-pub loop-at-preserved : goal.loop-at-preserved
-loop-at-preserved c =
-    let turn : Row c.args.file.now c.loop-at.at c.row_length-length.result = row-found _ _ _ c.row_length-length.ensures c.if-length-eq0.false in
-    ((turn).inside, filled_more _ _ c.requires.room _ _ _ c.loop-at.invariant.1 _ _ (turn).places_are)
+pub returns : goal.returns
+returns c = filled-all _ _ c.requires.room _ _ _ c.loop-row.invariant.filled (none-left _ _ c.in-None.ensures.steps.0)

@@ -1,12 +1,15 @@
--- Each turn writes the next place: the laws of places and of a table that is filled. Assumes nothing.
-use Prim.Native.Nat.{◌≤◌, ◌-◌}
-use lib.ListN.{length}
-use Rattle.phrase_file.specs.Form.{places_from, places}
+-- Each turn writes the next place: the laws of a table that is filled. Assumes nothing.
+use mathlib.Core.Path.{◌≡◌}
+use Rattle.std.specs.Iterator.Adapters.{enumerate_source, enumerate_count}
+use Rattle.phrase_file.specs.Form.{places}
+use Rattle.phrase_file.specs.Walk.{places_left}
 use Rattle.phrase_file.proofs.Filling.{Filled}
 use Rattle.phrase_file.proofs.fill_places.Given as goal
 
-abbrev pub invariant-loop-at : goal.invariant-loop-at
-invariant-loop-at l = (l.at ≤ length l.file) × Filled (places l.file) l.initial.table l.row (places_from l.file l.at) l.table
-
-abbrev pub decreases-loop-at : goal.decreases-loop-at
-decreases-loop-at l = length l.file - l.at
+abbrev pub invariant-loop-row : goal.invariant-loop-row
+invariant-loop-row l = record {
+  can : (goal.iterator-loop-row).can_next l.row-iterator;
+  ends : (goal.iterator-loop-row).is_finite l.row-iterator;
+  same : (enumerate_source l.row-iterator).file.now ≡ l.file;
+  filled : Filled (places l.file) l.initial.table (enumerate_count l.row-iterator) (places_left (enumerate_source l.row-iterator)) l.table;
+}

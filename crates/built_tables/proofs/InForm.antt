@@ -8,13 +8,13 @@ use Prim.Native.Nat.{ℕ, ◌<◌}
 use native.Mathlib.Omega.{arith}
 use lib.ListN.{length, length-append, get_or}
 use borrow.Author.Tests.{lt-ltb, le-ltb}
+use Rattle.std.specs.Prelude.{Some}
 use Rattle.phrase_file.specs.Form.{rows}
 use Rattle.phrase_file.proofs.Checks as Checks
 use Rattle.theory.specs.Dictionary.{Dictionary}
 use Rattle.theory.specs.Parts.{Parts, part_or, bytes_of, parts_of, parts_below, dictionary}
 use Rattle.theory.proofs.Accepted.{parts_at}
 use Rattle.tables.specs.Tables.{Tables}
-use Rattle.tables.specs.declared.Form.TheVariants as Form
 use Rattle.tables.specs.InForm.{form_of}
 use Rattle.tables.specs.Ready.{Lower, PartsReady, PrefixesReady, Ready}
 use Rattle.tables.proofs.Readiness as Readiness
@@ -88,7 +88,7 @@ module _ (T : Tables) (n : ℕ) (B : Built T n) where
   }
 
   -- tables that an accepting build left are in form, n being the count of rows
-  pub is_in_form : form_of T ≡ Form.Rows n
+  pub is_in_form : form_of T ≡ Some n
   is_in_form = Readiness.is_in_form T n B.passed B.places_are parts_ready prefixes_ready B.area_room
 
   pub ready : Ready T n

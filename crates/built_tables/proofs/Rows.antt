@@ -2,15 +2,12 @@
 use mathlib.Core.Path.{◌≡◌, refl, sym, ap, ◌∙◌}
 use mathlib.Core.List.{List, [], ◌∷◌}
 use mathlib.Core.Bool.{Bool}
-use Prim.Native.Nat.{ℕ, zero, suc, ◌+◌, ◌-◌, ◌<◌}
+use Prim.Native.Nat.{ℕ, zero, suc, ◌-◌, ◌<◌}
 use native.Mathlib.Omega.{arith}
-use lib.ListN.{length, length-take, get_or, take, drop}
-use lib.Seq.{get_or-take}
-use borrow.Author.Tests.{lt-ltb}
+use lib.ListN.{length, get_or}
 use lib.Dec.{ltb}
-use Rattle.phrase_file.specs.Form.{places, rows}
+use Rattle.phrase_file.specs.Form.{rows}
 use Rattle.phrase_file.proofs.Checks as Checks
-use Rattle.phrase_file.proofs.Rows as FileRows
 use Rattle.placed_rows.specs.Rows.{row}
 use Rattle.theory.specs.Dictionary.{Octets, KnownText}
 use Rattle.theory.specs.PairCheck.{passes}
@@ -19,6 +16,7 @@ use Rattle.theory.proofs.PairCheck.{Lawful}
 use Rattle.theory.proofs.Accepted.{lawful, known-text}
 use Rattle.tables.specs.Tables.{Tables, without_prefixes}
 use Rattle.tables.specs.Ready.{PlacesReady}
+use Rattle.tables.proofs.Placing as Placing
 use Rattle.pair_check.specs.Pair.{Distinct, Tells, PairIs, PassIs}
 use Rattle.built_tables.specs.Built.{dictionary_of, Built}
 
@@ -46,29 +44,8 @@ module _ (T : Tables) (n : ℕ) (B : Built T n) where
   unfolding dictionary_of dictionary
   bytes_are c h = let e = file-is.count in default (rows file) c ((c - length (rows file)) ∷ []) [] (omega arith)
 
-  place_is : (c : ℕ) → c < n → get_or placeTable c 0 ≡ get_or (places file) c 0
-  place_is c h = sym (get_or-take n placeTable c 0 h) ∙ ap (λ (l : List ℕ). get_or l c 0) B.places_are
-
-  row-taken : (c : ℕ) → c < n → row file placeTable n c ≡ take (get_or file (get_or (places file) c 0 + 2) 0) (drop (get_or (places file) c 0 + 3) file)
-  unfolding row
-  row-taken c h = rw (lt-ltb c n h, place_is c h, row)
-
-  file-row : (c : ℕ) → c < n → FileRows.RowIs file c
-  file-row c h = let e = file-is.count in FileRows.row_is file c (omega arith)
-
   pub places_ready : PlacesReady file placeTable n
-  places_ready = record {
-    count = file-is.count;
-    least = file-is.least;
-    placed = record {
-      few = file-is.most;
-      places_fit = omega (arith, ap length B.places_are, length-take n placeTable, file-is.count_places);
-      inside = λ c h. rw (place_is c h) (let r = file-row c h in omega (arith, r.inside, r.size));
-    };
-    rows_are = λ c h. row-taken c h ∙ sym (file-row c h).bytes;
-    filled = λ c h. (file-row c h).some;
-    short = λ c h. (file-row c h).most;
-  }
+  places_ready = Placing.places_ready file placeTable n B.passed B.places_are
 
   -- a row as it is read is a row of the dictionary
   pub row-bytes : (c : ℕ) → c < n → row file placeTable n c ≡ (dictionary_of file).bytes c

@@ -1,7 +1,6 @@
 -- What an accepting build leaves in the tables and in the search area.
-use Rattle.std.specs.Prelude.{◌≡◌, List, ℕ, ◌≤◌, ◌<◌, length, get_or, take}
+use Rattle.std.specs.Prelude.{◌≡◌, List, ℕ, ◌≤◌, ◌<◌, length, get_or, take, Ok}
 use Rattle.marks.specs.Layout.{area_size}
-use Rattle.causes.specs.declared.BuildAnswer.TheVariants.{Rows}
 use Rattle.phrase_file.specs.Form.{places, rows}
 use Rattle.phrase_file.specs.Checks.{check_of}
 use Rattle.theory.specs.Dictionary.{Dictionary}
@@ -17,7 +16,7 @@ dictionary_of file = dictionary (rows file)
 -- the file is accepted, the first n entries of each table are the definitions', and the search area finds every row
 -- and has every pair and every seam marked
 pub record Built (T : Tables) (n : ℕ) : Type 0 where
-  pub passed : check_of T.file ≡ Rows n
+  pub passed : check_of T.file ≡ Ok n
   pub accepted : Accepted (rows T.file)
   pub places_are : take n T.places ≡ places T.file
   pub lefts_room : n ≤ length T.lefts

@@ -1,6 +1,5 @@
 -- The tables of parts are filled row by row, until a row has none. Assumes nothing.
 use mathlib.Core.Path.{◌≡◌, refl, sym, ap, ◌∙◌}
-use mathlib.Core.Logic.{⊎_elim}
 use mathlib.Core.List.{List}
 use mathlib.Core.Bool.{true}
 use Prim.Native.Nat.{ℕ, ◌+◌, ◌-◌, ◌≤◌, ◌<◌}
@@ -12,12 +11,11 @@ use Rattle.theory.proofs.Accepted.{parts_at}
 use Rattle.phrase_file.specs.Form.{rows}
 use Rattle.phrase_file.specs.Checks.{first_not}
 use Rattle.phrase_file.proofs.Bytes.{first-passed, first-here, first-end}
-use Rattle.theory.specs.Dictionary.{none}
 use Rattle.marks.specs.Marks.{marked}
 use Rattle.pair_check.specs.Pair.{pair_key, seam_at}
-use Rattle.parts.specs.Parts.{is_some, has_parts, first_without, parts_in, RowParts, PartsKnown, Looking, PartsFound, PartsFit, PartsFilled}
+use Rattle.parts.specs.Parts.{is_some, has_parts, first_without, parts_in, RowParts, NoParts, PartsKnown, Looking, PartsFit, PartsFilled}
 use Rattle.parts.specs.Marking.{AreaKept, WriteFit, PartsWritten, SeamFit, SeamWritten}
-use Rattle.parts.proofs.Trying.{left-low, left-shorter}
+use Rattle.parts.proofs.Trying.{left-shorter}
 use Rattle.parts.proofs.Marking.{still-found, kept-all, kept-through, seam-stays}
 use Rattle.tables.specs.Tables.{pair_tables}
 
@@ -93,10 +91,10 @@ module _ (file places lefts₀ rights₀ prefixes area₀ : List ℕ) (n : ℕ) 
     pub filling_done : n ≤ w → PartsFilled file lefts₀ rights₀ area₀ lefts rights area n n
     filling_done h = let e : n ≡ w = omega (arith, F.few) in done n e (e ∙ sym (first-end (has_parts (rows file)) n w h) ∙ F.left_to_do)
 
-    module _ (l r : ℕ) (h : w < n) (p : PartsFound file w l r) where
-      pub filling_stops : l ≡ none → PartsFilled file lefts₀ rights₀ area₀ lefts rights area n w
-      filling_stops e = done w refl (sym (first-here (has_parts (rows file)) n w h (has h ∙ ⊎_elim (λ q. ap is_some q.are) (λ q. absurd (omega (arith, left-low file places lefts rights prefixes area n w (filling_looks h) l r q, T.rows_found.places_ready.placed.few))) p)) ∙ F.left_to_do)
+    pub filling_stops : w < n → NoParts file w → PartsFilled file lefts₀ rights₀ area₀ lefts rights area n w
+    filling_stops h q = done w refl (sym (first-here (has_parts (rows file)) n w h (has h ∙ ap is_some q.are)) ∙ F.left_to_do)
 
+    module _ (l r : ℕ) (h : w < n) (q : RowParts file w l r) where
       pub filling_writes : WriteFit lefts rights area w
       filling_writes = record {
         row = omega (arith, T.rows_found.places_ready.placed.few);
@@ -105,17 +103,17 @@ module _ (file places lefts₀ rights₀ prefixes area₀ : List ℕ) (n : ℕ) 
         area_room = omega (arith, F.area_kept.area_length, T.rows_found.area_room);
       }
 
-      pub filling_cuts : (l ≡ none → ⊥) → (lefts' rights' area' : List ℕ) → PartsWritten lefts rights area w l r lefts' rights' area' → SeamFit file places area' n w l
-      filling_cuts d lefts' rights' area' P = record {
+      pub filling_cuts : (lefts' rights' area' : List ℕ) → PartsWritten lefts rights area w l r lefts' rights' area' → SeamFit file places area' n w l
+      filling_cuts lefts' rights' area' P = record {
         places_ready = T.rows_found.places_ready;
         row_below = h;
         area_room = omega (arith, P.kept.area_length, filling_writes.area_room);
-        shorter = ⊎_elim (λ q. absurd (d q.left_none)) (λ q. left-shorter file places lefts rights prefixes area n w (filling_looks h) l r q) p;
+        shorter = left-shorter file places lefts rights prefixes area n w (filling_looks h) l r q;
       }
 
-      pub filling_goes_on : (l ≡ none → ⊥) → (lefts' rights' area' area'' : List ℕ) → PartsWritten lefts rights area w l r lefts' rights' area' → SeamWritten file area' w l area''
+      pub filling_goes_on : (lefts' rights' area' area'' : List ℕ) → PartsWritten lefts rights area w l r lefts' rights' area' → SeamWritten file area' w l area''
           → Filling file lefts₀ rights₀ area₀ lefts' rights' area'' n (w + 1)
-      filling_goes_on d lefts' rights' area' area'' P S = ⊎_elim (λ q. absurd (d q.left_none)) more p
+      filling_goes_on lefts' rights' area' area'' P S = more
         where
           same_left : get_or lefts' w 0 ≡ l
           same_left = ap (λ (t : List ℕ). get_or t w 0) P.lefts_are ∙ get_or-set_same lefts w l 0 filling_writes.left_room
@@ -129,9 +127,9 @@ module _ (file places lefts₀ rights₀ prefixes area₀ : List ℕ) (n : ℕ) 
           other-right : (c : ℕ) → c < w → get_or rights' c 0 ≡ get_or rights c 0
           other-right c b = ap (λ (t : List ℕ). get_or t c 0) P.rights_are ∙ get_or-set_other rights w c r 0 (λ z. omega arith)
 
-          parts : RowParts file w l r → (c : ℕ) → c < w + 1 → Dec (c < w) → RowParts file c (get_or lefts' c 0) (get_or rights' c 0)
-          parts q c k (yes b) = rw (other-left c b, other-right c b) (F.known.parts c b)
-          parts q c k (no b) = let z : c ≡ w = omega arith in rw (z, same_left, same-right) q
+          parts : (c : ℕ) → c < w + 1 → Dec (c < w) → RowParts file c (get_or lefts' c 0) (get_or rights' c 0)
+          parts c k (yes b) = rw (other-left c b, other-right c b) (F.known.parts c b)
+          parts c k (no b) = let z : c ≡ w = omega arith in rw (z, same_left, same-right) q
 
           pairs : (c : ℕ) → c < w + 1 → Dec (c < w) → get_or lefts' c 0 < c → marked area'' 15360 (pair_key (get_or lefts' c 0) (get_or rights' c 0)) ≡ true
           pairs c k (yes b) = rw (other-left c b, other-right c b) (λ h. S.old (pair_key (get_or lefts c 0) (get_or rights c 0)) (P.old (pair_key (get_or lefts c 0) (get_or rights c 0)) (F.known.pairs_marked c b h)))
@@ -147,13 +145,13 @@ module _ (file places lefts₀ rights₀ prefixes area₀ : List ℕ) (n : ℕ) 
           rights_length : length rights' ≡ length rights₀
           rights_length = ap length P.rights_are ∙ length-set rights w r ∙ F.rights_length
 
-          more : RowParts file w l r → Filling file lefts₀ rights₀ area₀ lefts' rights' area'' n (w + 1)
-          more q = record {
+          more : Filling file lefts₀ rights₀ area₀ lefts' rights' area'' n (w + 1)
+          more = record {
             few = omega arith;
             known = record {
               left_room = omega (arith, lefts_length, T.left_room);
               right_room = omega (arith, rights_length, T.right_room);
-              parts = λ c k. parts q c k (dec_lt c w);
+              parts = λ c k. parts c k (dec_lt c w);
               pairs_marked = λ c k. pairs c k (dec_lt c w);
               seams_marked = λ c k. seams c k (dec_lt c w);
             };

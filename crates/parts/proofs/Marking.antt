@@ -4,10 +4,12 @@ use mathlib.Core.List.{List, []}
 use mathlib.Core.Bool.{true}
 use Prim.Native.Nat.{ℕ, ◌+◌, ◌-◌, ◌/◌, ◌≤◌, ◌<◌}
 use mathlib.Core.Logic.{◌⊎◌, inl, inr, ⊎_elim}
-use native.Mathlib.Decide.{dec_lt}
 use native.Mathlib.Omega.{arith}
-use lib.ListN.{length, length-set, get_or, set}
-use lib.Seq.{get_or-set_same, get_or-set_other, take-set-le, drop-set-lt}
+use lib.ListN.{length, length-set, length-append, length-take, length-drop, length-replicate, get_or, get_or-replicate, set, drop, replicate}
+use borrow.Rule.Slice.PartMut.{put_mid}
+use Rattle.std.specs.List.{between}
+use Rattle.std.proofs.lemmas.Slice.{take-put_mid_below, drop-put_mid, between-put_mid}
+use lib.Seq.{get_or-take, get_or-drop, get_or-set_other, take-set-le, drop-set-lt}
 use Rattle.phrase_file.specs.Form.{rows}
 use Rattle.theory.specs.Dictionary.{none}
 use Rattle.placed_rows.specs.Rows.{row}
@@ -46,34 +48,27 @@ still-found file places area area' n R k = record {
   finds = finds-same file places n area area' (sym k.before) R.finds;
 }
 
--- the hints and the marks below number i are none
-pub record Emptying (area₀ area : List ℕ) (i : ℕ) : Type 0 where
-  pub from : 12544 ≤ i
-  pub to : i ≤ 16384
-  pub kept : AreaKept area₀ area
-  pub emptied : (j : ℕ) → 12544 ≤ j → j < i → get_or area j 0 ≡ none
-
-pub emptying_start : (area : List ℕ) → Emptying area area 12544
-emptying_start area = record { from = omega arith; to = omega arith; kept = kept-all area; emptied = λ j h k. absurd (omega arith) }
-
-module _ (area₀ area : List ℕ) (i : ℕ) (E : Emptying area₀ area i) where
-  pub emptying_inside : 16384 ≤ length area₀ → i < 16384 → i < length area
-  emptying_inside r h = omega (arith, E.kept.area_length)
-
-  pub emptying_goes_on : 16384 ≤ length area₀ → i < 16384 → Emptying area₀ (set area i none) (i + 1)
-  emptying_goes_on r h = record {
-    from = omega (arith, E.from);
-    to = omega arith;
-    kept = kept-through area₀ area (set area i none) E.kept (kept_set area i none E.from h);
-    emptied = λ j a b. at j a b (dec_lt j i);
-  }
-    where
-      at : (j : ℕ) → 12544 ≤ j → j < i + 1 → Dec (j < i) → get_or (set area i none) j 0 ≡ none
-      at j a b (yes l) = get_or-set_other area i j none 0 (λ z. omega arith) ∙ E.emptied j a l
-      at j a b (no l) = let z : j ≡ i = omega arith in rw z (get_or-set_same area i none 0 (emptying_inside r h))
-
-  pub emptying_done : 16384 ≤ i → PairsEmptied area₀ area
-  emptying_done h = record { kept = E.kept; emptied = λ j a b. E.emptied j a (omega arith) }
+-- the hints and the marks are filled with none
+pub pairs-emptied : (area filled : List ℕ) → 16384 ≤ length area → filled ≡ replicate 3840 none → PairsEmptied area (put_mid 12544 3840 area filled)
+pairs-emptied area filled r e =
+    let size : length filled ≡ 3840 = ap length e ∙ length-replicate 3840 none in
+    let back : drop 16384 (put_mid 12544 3840 area filled) ≡ drop 16384 area = drop-put_mid 12544 3840 area filled 16384 (omega arith) (omega arith) size in
+    let part : between 12544 16384 (put_mid 12544 3840 area filled) ≡ filled = between-put_mid 12544 3840 area filled 16384 (omega arith) size in
+    record {
+      kept = record {
+        area_length = simp (length-append, length-take, length-drop) (omega (arith, size));
+        before = take-put_mid_below 12544 3840 area filled 12544 (omega arith) (omega arith);
+        beyond = back;
+      };
+      emptied = λ i h k.
+          let j : i ≡ 12544 + (i - 12544) = omega arith in
+          let b : i - 12544 < 3840 = omega arith in
+          ap (λ (m : ℕ). get_or (put_mid 12544 3840 area filled) m 0) j
+          ∙ sym (get_or-drop 12544 (put_mid 12544 3840 area filled) (i - 12544) 0)
+          ∙ sym (get_or-take 3840 (drop 12544 (put_mid 12544 3840 area filled)) (i - 12544) 0 b)
+          ∙ ap (λ (l : List ℕ). get_or l (i - 12544) 0) (part ∙ e)
+          ∙ get_or-replicate 3840 (i - 12544) none 0 b;
+    }
 
 -- a number outside the marks of pairs, or of seams, has changed
 pairs_stay : (area : List ℕ) (i v : ℕ) → i < 15360 → PairsStay area (set area i v)
@@ -98,8 +93,8 @@ named_set area p v h = record {
 
 module _ (lefts rights area : List ℕ) (w l r : ℕ) where
   -- a one-byte row has no pair
-  pub written-single : (x : ℕ) → x ≡ l → w ≤ x → PartsWritten lefts rights area w l r (set lefts w l) (set rights w r) area
-  written-single x e h = record { lefts_are = refl; rights_are = refl; kept = kept-all area; new = λ k. absurd (omega arith); old = λ k m. m; seams = λ a b m. m }
+  pub written-single : w ≤ l → PartsWritten lefts rights area w l r (set lefts w l) (set rights w r) area
+  written-single h = record { lefts_are = refl; rights_are = refl; kept = kept-all area; new = λ k. absurd (omega arith); old = λ k m. m; seams = λ a b m. m }
 
   -- a longer row was named, and its pair marked
   pub written-marked : (k : ℕ) (area' area'' : List ℕ) → Named area area' → k ≡ pair_key l r → Marks area' 15360 k area'' → PartsWritten lefts rights area w l r (set lefts w l) (set rights w r) area''
@@ -112,14 +107,13 @@ module _ (lefts rights area : List ℕ) (w l r : ℕ) where
     seams = λ a b i. let s : SeamsStay area' area'' = rw m.is (seams_stay area' (15360 + k / 1024) m.number (inr (omega arith))) in s a b (N.seams a b i);
   }
 
--- row l as an index x
-module _ (file places area : List ℕ) (n w l x : ℕ) (F : SeamFit file places area n w l) (W : x ≡ l) where
+module _ (file places area : List ℕ) (n w l : ℕ) (F : SeamFit file places area n w l) where
   -- a one-byte row has no seam
-  pub seam-single : w ≤ x → SeamWritten file area w l area
+  pub seam-single : w ≤ l → SeamWritten file area w l area
   seam-single h = record { kept = kept-all area; new = λ k. absurd (omega arith); old = λ k m. m; seams = λ a b m. m }
 
   -- the bytes s of row w, and the length m of row l, as they are read
-  module _ (h : x < w) (s : List ℕ) (m : ℕ) (e : s ≡ row file places n w) (S : Small (length (row file places n x)) 256 m) where
+  module _ (h : l < w) (s : List ℕ) (m : ℕ) (e : s ≡ row file places n w) (S : Small (length (row file places n l)) 256 m) where
     bytes_read : s ≡ get_or (rows file) w []
     bytes_read = e ∙ F.places_ready.rows_are w F.row_below
 
@@ -127,7 +121,7 @@ module _ (file places area : List ℕ) (n w l x : ℕ) (F : SeamFit file places 
     low = omega (arith, F.row_below)
 
     length-read : m ≡ length (get_or (rows file) l [])
-    length-read = S.is ∙ ap (λ (c : ℕ). length (row file places n c)) W ∙ ap length (F.places_ready.rows_are l low)
+    length-read = S.is ∙ ap length (F.places_ready.rows_are l low)
 
     pub cut-some : 1 ≤ m
     cut-some = omega (arith, length-read, F.places_ready.filled l low)

@@ -1,5 +1,5 @@
 -- The rows that begin a row are tried, longest first: what each of them gives, and what is left. Assumes nothing.
-use mathlib.Core.Path.{◌≡◌, refl, sym, ap, ap₂, ◌∙◌}
+use mathlib.Core.Path.{◌≡◌, sym, ap, ap₂, ◌∙◌}
 use mathlib.Core.Logic.{◌⊎◌, inl, inr, ⊎_elim}
 use mathlib.Core.List.{List, [], ◌∷◌, ◌++◌}
 use mathlib.Core.Bool.{Bool, true, false}
@@ -24,7 +24,9 @@ use Rattle.tables.specs.Tables.{PairTables, pair_tables}
 use Rattle.tables.specs.Ready.{PartsReady}
 use Rattle.search_area.specs.Answers.{Found}
 use Rattle.pair_check.specs.Pair.{Tells, PairReady, PairIs}
-use Rattle.parts.specs.Parts.{parts_in, PrefixesFound, RowParts, Looking, Beginner, Fails, Passes, RightPart, PartsFound}
+use Rattle.std.specs.Bool.{then_some}
+use Rattle.parts.specs.Found.{RightPart}
+use Rattle.parts.specs.Parts.{parts_in, PrefixesFound, RowParts, NoParts, Looking, Beginner, Fails, Passes}
 use Rattle.parts.proofs.Prefixes.{bytes_are, row-bytes, different, prefix_cases}
 
 -- a one-byte row has itself twice
@@ -97,15 +99,15 @@ module _ (P : PairTables) (n w : ℕ) (L : Looking P n w) where
     rest = drop (length (bytes_of (rows file) c)) (bytes_of (rows file) w)
 
     -- the rest, as code cuts it out of the row
-    module _ (at x from : ℕ) (bytes : List ℕ) (z : at ≡ w) (y : x ≡ c) (e : bytes ≡ row file places n at) (f : from ≡ length (row file places n x)) where
+    module _ (from : ℕ) (bytes : List ℕ) (e : bytes ≡ row file places n w) (f : from ≡ length (row file places n c)) where
       pub inside : from ≤ length bytes
-      inside = rw (e, f, z, y) (begins-length (row file places n c) (row file places n w) B.begins)
+      inside = rw (e, f) (begins-length (row file places n c) (row file places n w) B.begins)
 
       pub found-rest : Found file places n area (take (length bytes - from) (drop from bytes)) r → Found file places n area (drop (length (bytes_of (rows file) c)) (bytes_of (rows file) w)) r
       found-rest = rw (
         take_all (length bytes - from) (drop from bytes) (omega (arith, length-drop from bytes)),
-        f ∙ ap (λ (k : ℕ). length (row file places n k)) y ∙ ap length (read c B.row_below),
-        e ∙ ap (row file places n) z ∙ read w L.row_below,
+        f ∙ ap length (read c B.row_below),
+        e ∙ read w L.row_below,
       ) (λ F. F)
 
     module _ (F : Found file places n area rest r) where
@@ -123,13 +125,13 @@ module _ (P : PairTables) (n w : ℕ) (L : Looking P n w) where
           let b : row file places n (rest_of (rows file) known w c) ≡ rest = read (rest_of (rows file) known w c) m ∙ row_below-is D (length (rows file)) rest (omega arith) in
           ⊎_elim (λ z. absurd ((F.found L.rows_found.finds).all z (rest_of (rows file) known w c) m b)) rest-is F.bound
 
-      pub fails-left : w ≤ c → Fails file w c none
-      fails-left h = record { is_none = refl; not_parts = rw (le-ltb c w h) }
+      pub fails-left : w ≤ c → Fails file w c
+      fails-left h = record { not_parts = rw (le-ltb c w h) }
 
-      pub fails-right : w ≤ r → Fails file w c none
+      pub fails-right : w ≤ r → Fails file w c
       fails-right h =
           let k : w ≤ rest_of (rows file) known w c = ⊎_elim (λ m. absurd (omega (arith, rest-found m))) (λ g. g) (lt_or_ge (rest_of (rows file) known w c) w) in
-          record { is_none = refl; not_parts = bool_cases (ltb c w) (λ e. rw (e, le-ltb (rest_of (rows file) known w c) w k)) (λ e. rw e) }
+          record { not_parts = bool_cases (ltb c w) (λ e. rw (e, le-ltb (rest_of (rows file) known w c) w k)) (λ e. rw e) }
 
       -- both are below row w
       module _ (cb : c < w) (rb : r < w) where
@@ -149,9 +151,6 @@ module _ (P : PairTables) (n w : ℕ) (L : Looking P n w) where
         checked : (b : Bool) → PairIs P n w c r b → are_parts_of (rows file) known w c ≡ b
         checked b p = rw (lt-ltb c w cb, rest-is r-below, lt-ltb r w rb) (sym (p.passes_is D tells L.rows_found.distinct L.rows_found.finds L.known.pairs_marked))
 
-        pub fails-check : (b : Bool) → PairIs P n w c r b → b ≡ false → Fails file w c none
-        fails-check b p e = record { is_none = refl; not_parts = checked b p ∙ e }
-
         join : row file places n c ++ row file places n r ≡ row file places n w
         join =
             let i = (F.found L.rows_found.finds).is (λ z. let f = L.rows_found.places_ready.placed.few in omega arith) in
@@ -159,10 +158,12 @@ module _ (P : PairTables) (n w : ℕ) (L : Looking P n w) where
             (i.1 ∙ ap₂ drop (ap length (sym (read c B.row_below))) (sym (read w L.row_below)) ∙ beyond (row file places n c) (row file places n w) B.begins)
             ∙ sym B.begins.split
 
-        pub passes-check : (b : Bool) → PairIs P n w c r b → b ≡ true → Passes file w c r
-        passes-check b p e = record {
+        -- the pair check decides
+        pub right-is : (b : Bool) → PairIs P n w c r b → RightPart file w c (then_some b r)
+        right-is false p = record { not_parts = checked false p }
+        right-is true p = record {
           rest = sym (rest-is r-below);
-          are_parts = checked b p ∙ e;
+          are_parts = checked true p;
           joined = record {
             left_below = cb;
             right_below = rb;
@@ -180,28 +181,21 @@ abbrev pub Trying : List ℕ → List ℕ → ℕ → ℕ → ℕ → Type 0
 Trying file places n w c = ((c ≡ none) × (parts_in (rows file) w ≡ Option.none)) ⊎ Tried file places n w c
 
 module _ (file places lefts rights prefixTable area : List ℕ) (n w : ℕ) (L : Looking (pair_tables file places lefts rights area) n w) where
-  -- row w, its length as it is read
-  module _ (at size : ℕ) (z : at ≡ w) (f : size ≡ length (row file places n at)) where
+  -- the length of row w as it is read
+  module _ (size : ℕ) (f : size ≡ length (row file places n w)) where
     sized : size ≡ length (bytes_of (rows file) w)
-    sized = f ∙ ap (λ (k : ℕ). length (row file places n k)) z ∙ ap length (row-bytes file places n L.rows_found.places_ready w L.row_below)
+    sized = f ∙ ap length (row-bytes file places n L.rows_found.places_ready w L.row_below)
 
     -- a one-byte row
-    pub found-single : size ≡ 1 → PartsFound file w w w
-    found-single e = inr (record {
+    pub found-single : size ≡ 1 → RowParts file w w w
+    found-single e = record {
       are = parts-single (rows file) w (omega (arith, sized));
       longer = λ h. absurd (omega (arith, sized, ap length (bytes_are file places n L.rows_found.places_ready w L.row_below)));
-    })
+    }
 
     longer : (size ≡ 1 → ⊥) → 1 < length (bytes_of (rows file) w)
     longer d =
         omega (arith, sized, ap length (bytes_are file places n L.rows_found.places_ready w L.row_below), L.rows_found.places_ready.filled w L.row_below)
-
-  -- the left part is no higher row
-  pub left-low : (l r : ℕ) → RowParts file w l r → l ≤ w
-  left-low l r p = ⊎_elim
-      (λ h. let j = (p.longer (omega (arith, ap length (bytes_are file places n L.rows_found.places_ready w L.row_below)))).left_below in omega arith)
-      (λ h. let e = (parts_same (record { left = l; right = r }) (record { left = w; right = w }) (sym p.are ∙ parts-single (rows file) w h)).0 in omega arith)
-      (lt_or_ge 1 (length (bytes_of (rows file) w)))
 
   -- a left part that is a lower row has fewer bytes
   pub left-shorter : (l r : ℕ) → RowParts file w l r → l < w → length (get_or (rows file) l []) < length (get_or (rows file) w [])
@@ -219,20 +213,12 @@ module _ (file places lefts rights prefixTable area : List ℕ) (n w : ℕ) (L :
   pub next_row : (c : ℕ) → Trying file places n w c → (c ≡ none → ⊥) → Tried file places n w c
   next_row c t d = ⊎_elim (λ z. absurd (d z.0)) (λ z. z) t
 
-  pub none_left : (c : ℕ) → Trying file places n w c → c ≡ none → PartsFound file w none none
-  none_left c t e = inl (record {
-    left_none = refl;
-    right_none = refl;
-    are = ⊎_elim (λ z. z.1) (λ z. absurd (omega (arith, few, z.beginner.row_below))) t;
-  })
+  pub none_left : (c : ℕ) → Trying file places n w c → c ≡ none → NoParts file w
+  none_left c t e = record { are = ⊎_elim (λ z. z.1) (λ z. absurd (omega (arith, few, z.beginner.row_below))) t }
 
   -- row c was tried, and right_part answered r
-  module _ (c r : ℕ) (t : Tried file places n w c) (R : RightPart file w c r) where
-    pub found-parts : (r ≡ none → ⊥) → PartsFound file w c r
-    found-parts d = inr (⊎_elim (λ f. absurd (d f.is_none)) (λ p. record { are = t.is ∙ (rw (p.are_parts, ← p.rest, first_parts)); longer = λ h. p.joined }) R)
-
-    failed : r ≡ none → Fails file w c r
-    failed e = ⊎_elim (λ f. f) (λ p. absurd (omega (arith, few, L.row_below, p.joined.right_below))) R
+  pub found-parts : (c r : ℕ) → Tried file places n w c → Passes file w c r → RowParts file w c r
+  found-parts c r t p = record { are = t.is ∙ (rw (p.are_parts, ← p.rest, first_parts)); longer = λ h. p.joined }
 
   module _ (X : PrefixesFound file places prefixTable n) where
     along : (c : ℕ) → c < n → Begins (row file places n c) (row file places n w)
@@ -252,12 +238,12 @@ module _ (file places lefts rights prefixTable area : List ℕ) (n w : ℕ) (L :
         (prefix_cases file places n L.rows_found.places_ready L.rows_found.distinct (parts_below (rows file) w) c (get_or prefixTable c 0) h x)
 
     -- a longer row: its prefix is the first to try
-    pub try_first : (at size : ℕ) → at ≡ w → size ≡ length (row file places n at) → (size ≡ 1 → ⊥) → Trying file places n w (get_or prefixTable at 0)
-    try_first at size z f d = rw z (along w L.row_below (whole (row file places n w)) (parts-longer (rows file) w (longer at size z f d)))
+    pub try_first : (size : ℕ) → size ≡ length (row file places n w) → (size ≡ 1 → ⊥) → Trying file places n w (get_or prefixTable w 0)
+    try_first size f d = along w L.row_below (whole (row file places n w)) (parts-longer (rows file) w (longer size f d))
 
-    module _ (c at : ℕ) (t : Tried file places n w c) (z : at ≡ c) where
-      pub try_next : (r : ℕ) → RightPart file w c r → r ≡ none → Trying file places n w (get_or prefixTable at 0)
-      try_next r R e = rw z (along c t.beginner.row_below t.beginner.begins (t.is ∙ (rw ((failed c r t R e).not_parts, first_parts))))
+    module _ (c : ℕ) (t : Tried file places n w c) where
+      pub try_next : Fails file w c → Trying file places n w (get_or prefixTable c 0)
+      try_next f = along c t.beginner.row_below t.beginner.begins (t.is ∙ (rw (f.not_parts, first_parts)))
 
-      pub try_less : length (row file places n (get_or prefixTable at 0)) < length (row file places n c)
-      try_less = rw z (X.are c t.beginner.row_below).shorter
+      pub try_less : length (row file places n (get_or prefixTable c 0)) < length (row file places n c)
+      try_less = (X.are c t.beginner.row_below).shorter

@@ -1,11 +1,10 @@
 -- The parts of the rows of a phrase file, as build finds them over its tables.
-use Rattle.std.specs.Prelude.{◌≡◌, ◌⊎◌, List, [], ◌++◌, Bool, true, false, ℕ, ◌≤◌, ◌<◌, length, get_or, drop}
+use Rattle.std.specs.Prelude.{◌≡◌, List, [], ◌++◌, Bool, true, false, ℕ, ◌≤◌, ◌<◌, length, get_or, drop}
 use Rattle.std.proofs.Math.Option.{Option, some}
 use Rattle.marks.specs.Layout.{area_size}
 use Rattle.theory.specs.Parts.{Parts, rest_of, are_parts_of, parts_of, parts_below}
 use Rattle.phrase_file.specs.Form.{rows}
 use Rattle.phrase_file.specs.Checks.{first_not}
-use Rattle.theory.specs.Dictionary.{none}
 use Rattle.placed_rows.specs.Rows.{row}
 use Rattle.placed_rows.specs.Texts.{Begins}
 use Rattle.placed_rows.specs.Longest.{Below, Prefix}
@@ -74,9 +73,8 @@ pub record Beginner (file places : List ℕ) (n w c : ℕ) : Type 0 where
   pub row_below : c < n
   pub begins : Begins (row file places n c) (row file places n w)
 
--- c and the rest of row w are not its parts, and r is none; or they are, and r is the rest
-pub record Fails (file : List ℕ) (w c r : ℕ) : Type 0 where
-  pub is_none : r ≡ none
+-- c and the rest of row w are not its parts; or they are, and r is the rest
+pub record Fails (file : List ℕ) (w c : ℕ) : Type 0 where
   pub not_parts : are_parts_of (rows file) (parts_below (rows file) w) w c ≡ false
 
 pub record Passes (file : List ℕ) (w c r : ℕ) : Type 0 where
@@ -84,17 +82,9 @@ pub record Passes (file : List ℕ) (w c r : ℕ) : Type 0 where
   pub are_parts : are_parts_of (rows file) (parts_below (rows file) w) w c ≡ true
   pub joined : Joined file w c r
 
-abbrev pub RightPart : List ℕ → ℕ → ℕ → ℕ → Type 0
-RightPart file w c r = Fails file w c r ⊎ Passes file w c r
-
--- row w has no parts, and l and r are none
-pub record NoParts (file : List ℕ) (w l r : ℕ) : Type 0 where
-  pub left_none : l ≡ none
-  pub right_none : r ≡ none
+-- row w has no parts
+pub record NoParts (file : List ℕ) (w : ℕ) : Type 0 where
   pub are : parts_in (rows file) w ≡ Option.none
-
-abbrev pub PartsFound : List ℕ → ℕ → ℕ → ℕ → Type 0
-PartsFound file w l r = NoParts file w l r ⊎ RowParts file w l r
 
 -- the tables have room for the parts of all rows
 pub record PartsFit (file places lefts rights prefixes area : List ℕ) (n : ℕ) : Type 0 where

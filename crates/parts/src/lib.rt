@@ -3,86 +3,60 @@
 
 ghost use Rattle.std.specs.Prelude.{◌≡◌, ◌≤◌, ◌<◌, length};
 ghost use Rattle.marks.specs.Layout.{area_size};
-ghost use Rattle.parts.specs.Parts.{Looking, Beginner, RightPart, PrefixesFound, PartsFound, PartsFit};
-ghost use Rattle.parts.specs.Parts.{PartsFilled};
+ghost use Rattle.parts.specs.Parts.{Looking, Beginner, PrefixesFound, PartsFit, PartsFilled};
+ghost use Rattle.parts.specs.Found.{RightPart, PartsFound};
 ghost use Rattle.parts.specs.Marking.{PairsEmptied, Named, WriteFit, PartsWritten, SeamFit, SeamWritten};
 ghost use Rattle.tables.specs.Tables.{pair_given};
 
 use marks::{AREA, HINTS, PAIRS, SEAMS};
-use placed_rows::{NONE, wide};
+use placed_rows::{NONE, Rows};
+use tables::RowTables;
 
-// The left and the right part of a row, or NONE twice.
-#[derive(Drop)]
+// The left and the right part of a row.
+#[derive(Clone, Copy)]
 struct TokenParts {
     left: u32,
     right: u32,
 }
 
-// The rest of row w beyond its beginning `left`, if the two are its parts, else NONE.
-fn right_part(
-    file: &[u8],
-    places: &[u32],
-    lefts: &[u32],
-    rights: &[u32],
-    area: &[u32],
-    n: usize,
-    w: u32,
-    left: u32,
-) -> u32
-    requires looking { Looking (pair_given file places lefts rights area) n w }
-    requires beginner { Beginner file.now places.now n w left }
-    ensures { RightPart file.now w left result }
+// The rest of row w beyond its beginning `left`, if the two are its parts.
+fn right_part(tables: &RowTables<'_>, w: u32, left: u32) -> Option<u32>
+    requires looking { Looking (pair_given tables.now) tables.now.rows.n w }
+    requires beginner { let r = tables.now.rows in Beginner r.file.now r.places.now r.n w left }
+    ensures { RightPart tables.now.rows.file.now w left result }
 {
-    let bytes = placed_rows::bytes_of(file, places, n, wide(w));
-    let from = placed_rows::length_of(file, places, n, wide(left));
-    let right = search_area::find(file, places, area, n, &bytes[from..]);
+    let bytes = tables.rows.bytes_of(w as usize);
+    let from = tables.rows.length_of(left as usize);
+    let right = search_area::find(&tables.rows, tables.area, &bytes[from..]);
     if w <= left {
-        return NONE;
+        return None;
     }
     if w <= right {
-        return NONE;
+        return None;
     }
-    if pair_check::is_valid_pair_by_parts(file, places, lefts, rights, area, n, w, left, right) {
-        return right;
-    }
-    NONE
+    pair_check::is_valid_pair_by_parts(tables, w, left, right).then_some(right)
 }
 
 // The parts of row w: a one-byte row has itself twice; for a longer one the rows that begin it are tried, longest
 // first.
-fn find_parts(
-    file: &[u8],
-    places: &[u32],
-    lefts: &[u32],
-    rights: &[u32],
-    prefixes: &[u32],
-    area: &[u32],
-    n: usize,
-    w: u32,
-) -> TokenParts
-    requires looking { Looking (pair_given file places lefts rights area) n w }
-    requires prefixes_found { PrefixesFound file.now places.now prefixes.now n }
-    ensures { PartsFound file.now w result.left result.right }
+fn find_parts(tables: &RowTables<'_>, w: u32) -> Option<TokenParts>
+    requires looking { Looking (pair_given tables.now) tables.now.rows.n w }
+    requires prefixes_found { let r = tables.now.rows in PrefixesFound r.file.now r.places.now
+        tables.now.prefixes.now r.n }
+    ensures { PartsFound tables.now.rows.file.now w result }
 {
-    let row = wide(w);
-    if placed_rows::length_of(file, places, n, row) == 1 {
-        return TokenParts { left: w, right: w };
+    let row = w as usize;
+    if tables.rows.length_of(row) == 1 {
+        return Some(TokenParts { left: w, right: w });
     }
-    let mut left = prefixes[row];
+    let mut left = tables.prefixes[row];
     while left != NONE {
-        let right = right_part(file, places, lefts, rights, area, n, w, left);
-        if right != NONE {
-            return TokenParts {
-                left: left,
-                right: right,
-            };
+        if let Some(right) = right_part(tables, w, left) {
+            return Some(TokenParts { left, right });
         }
-        left = prefixes[wide(left)];
+        left = tables.prefixes[left as usize];
     }
-    TokenParts {
-        left: NONE,
-        right: NONE,
-    }
+    None
 }
 
 // The hints and the marks become NONE: no row is named, and no seam and no pair is marked.
@@ -90,11 +64,7 @@ fn empty_pairs(area: &mut [u32])
     requires { area_size ≤ length area.old }
     ensures { PairsEmptied area.old area.new }
 {
-    let mut i = HINTS;
-    while i < AREA {
-        area[i] = NONE;
-        i += 1;
-    }
+    area[HINTS..AREA].fill(NONE);
 }
 
 // A number of two hints with row w as one of them, the lower where `which` is 0, unless another row is named there.
@@ -141,7 +111,7 @@ fn write_parts(
 {
     lefts[w] = left;
     rights[w] = right;
-    if w <= wide(left) {
+    if w <= left as usize {
         return;
     }
     name_row(area, w, left, right);
@@ -149,16 +119,16 @@ fn write_parts(
 }
 
 // Marks the seam of row w, if it is a longer one: its last byte within the left part, and the next one.
-fn mark_seam(file: &[u8], places: &[u32], area: &mut [u32], n: usize, w: usize, left: u32)
-    requires { SeamFit file.now places.now area.old n w left }
-    ensures { SeamWritten file.now area.old w left area.new }
+fn mark_seam(rows: &Rows<'_>, area: &mut [u32], w: usize, left: u32)
+    requires { let r = rows.now in SeamFit r.file.now r.places.now area.old r.n w left }
+    ensures { SeamWritten rows.now.file.now area.old w left area.new }
 {
-    let part = wide(left);
+    let part = left as usize;
     if w <= part {
         return;
     }
-    let bytes = placed_rows::bytes_of(file, places, n, w);
-    let cut = placed_rows::length_of(file, places, n, part);
+    let bytes = rows.bytes_of(w);
+    let cut = rows.length_of(part);
     marks::mark(
         area,
         SEAMS,
@@ -169,29 +139,31 @@ fn mark_seam(file: &[u8], places: &[u32], area: &mut [u32], n: usize, w: usize, 
 // Writes the parts of the rows into the tables, marks the pairs and the seams of the longer ones in the search area,
 // and says which row is the lowest without parts, n where all have parts.
 pub fn fill_parts(
-    file: &[u8],
-    places: &[u32],
+    rows: &Rows<'_>,
     lefts: &mut [u32],
     rights: &mut [u32],
     prefixes: &[u32],
     area: &mut [u32],
-    n: usize,
 ) -> usize
-    requires { PartsFit file.now places.now lefts.old rights.old prefixes.now area.old n }
-    ensures { PartsFilled file.now lefts.old rights.old area.old
-        lefts.new rights.new area.new n result }
+    requires { let r = rows.now in PartsFit r.file.now r.places.now lefts.old rights.old
+        prefixes.now area.old r.n }
+    ensures { PartsFilled rows.now.file.now lefts.old rights.old area.old
+        lefts.new rights.new area.new rows.now.n result }
 {
     empty_pairs(area);
-    let mut w = 0;
-    while w < n {
-        let parts = find_parts(file, places, lefts, rights, prefixes, area, n, w as u32);
-        let left = parts.left;
-        if left == NONE {
+    for w in 0..rows.n {
+        let tables = RowTables {
+            rows: *rows,
+            lefts,
+            rights,
+            prefixes,
+            area,
+        };
+        let Some(parts) = find_parts(&tables, w as u32) else {
             return w;
-        }
-        write_parts(lefts, rights, area, w, left, parts.right);
-        mark_seam(file, places, area, n, w, left);
-        w += 1;
+        };
+        write_parts(lefts, rights, area, w, parts.left, parts.right);
+        mark_seam(rows, area, w, parts.left);
     }
-    n
+    rows.n
 }

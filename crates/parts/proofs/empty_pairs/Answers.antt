@@ -1,19 +1,13 @@
--- The loop keeps that the marks below number i are none and that nothing else has changed. Assumes nothing.
+-- The hints and the marks are filled, and nothing else has changed. Assumes nothing.
+use mathlib.Core.Path.{◌≡◌, ◌∙◌, ap}
+use Prim.Native.Nat.{ℕ}
 use native.Mathlib.Omega.{arith}
-use Rattle.parts.proofs.Marking.{emptying_start, emptying_inside, emptying_goes_on, emptying_done}
+use lib.ListN.{length, length-take, length-drop, take, drop, replicate}
+use Rattle.theory.specs.Dictionary.{none}
+use Rattle.parts.proofs.Marking.{pairs-emptied}
 use Rattle.parts.proofs.empty_pairs.Goals as goal
 
-pub loop-i-init : goal.loop-i-init
-loop-i-init c = emptying_start _
-
-pub bounds-area-i : goal.bounds-area-i
-bounds-area-i c = emptying_inside _ _ _ c.loop-i.invariant c.requires (omega arith)
-
-pub loop-i-preserved : goal.loop-i-preserved
-loop-i-preserved c = emptying_goes_on _ _ _ c.loop-i.invariant c.requires (omega arith)
-
-pub shape_of-area : goal.shape_of-area
-shape_of-area c = c.loop-i.invariant.kept.area_length
-
 pub returns : goal.returns
-returns c = emptying_done _ _ _ c.loop-i.invariant (omega arith)
+returns c =
+    let size : length (take 3840 (drop 12544 c.args.area.now)) ≡ 3840 = simp (length-take, length-drop) (omega arith) in
+    pairs-emptied _ _ c.requires (c.fill.ensures.after (λ y e. e) ∙ ap (λ (k : ℕ). replicate k none) size)

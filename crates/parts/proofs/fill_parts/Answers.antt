@@ -13,35 +13,20 @@ loop-w-init c = filling_start _ _ _ _ _ _ _ (fit-kept _ _ _ _ _ _ c.empty_pairs.
 pub overflow_cast-w : goal.overflow_cast-w
 overflow_cast-w c = omega (arith, c.requires.rows_found.places_ready.placed.few)
 
-pub find_parts-parts-requires : goal.find_parts-parts-requires
-find_parts-parts-requires c = record { looking = filling_looks _ _ _ _ _ _ _ (fit-kept _ _ _ _ _ _ c.empty_pairs.ensures.kept _ _ c.requires) _ _ _ _ c.loop-w.invariant (omega arith); prefixes_found = c.requires.prefixes_found }
+pub find_parts-requires : goal.find_parts-requires
+find_parts-requires c = record { looking = filling_looks _ _ _ _ _ _ _ (fit-kept _ _ _ _ _ _ c.empty_pairs.ensures.kept _ _ c.requires) _ _ _ _ c.loop-w.invariant (omega arith); prefixes_found = c.requires.prefixes_found }
 
-pub shape_of-lefts-then-left : goal.shape_of-lefts-then-left
-shape_of-lefts-then-left c = c.loop-w.invariant.lefts_length
-
-pub shape_of-rights-then-left : goal.shape_of-rights-then-left
-shape_of-rights-then-left c = c.loop-w.invariant.rights_length
-
-pub shape_of-area-then-left : goal.shape_of-area-then-left
-shape_of-area-then-left c = c.loop-w.invariant.area_kept.area_length ∙ c.empty_pairs.ensures.kept.area_length
-
-pub returns-then-left : goal.returns-then-left
-returns-then-left c = filled-kept _ _ _ _ _ _ c.empty_pairs.ensures.kept _ _ _ _ (filling_stops _ _ _ _ _ _ _ (fit-kept _ _ _ _ _ _ c.empty_pairs.ensures.kept _ _ c.requires) _ _ _ _ c.loop-w.invariant _ _ (omega arith) c.find_parts-parts.ensures c.if-left.true)
+pub returns-in_default : goal.returns-in_default
+returns-in_default c = filled-kept _ _ _ _ _ _ c.empty_pairs.ensures.kept _ _ _ _ (filling_stops _ _ _ _ _ _ _ (fit-kept _ _ _ _ _ _ c.empty_pairs.ensures.kept _ _ c.requires) _ _ _ _ c.loop-w.invariant (omega arith) c.in_default.ensures)
 
 pub write_parts-requires : goal.write_parts-requires
-write_parts-requires c = filling_writes _ _ _ _ _ _ _ (fit-kept _ _ _ _ _ _ c.empty_pairs.ensures.kept _ _ c.requires) _ _ _ _ c.loop-w.invariant _ _ (omega arith) c.find_parts-parts.ensures
+write_parts-requires c = filling_writes _ _ _ _ _ _ _ (fit-kept _ _ _ _ _ _ c.empty_pairs.ensures.kept _ _ c.requires) _ _ _ _ c.loop-w.invariant _ _ (omega arith) c.in-Some.ensures
 
 pub mark_seam-requires : goal.mark_seam-requires
-mark_seam-requires c = filling_cuts _ _ _ _ _ _ _ (fit-kept _ _ _ _ _ _ c.empty_pairs.ensures.kept _ _ c.requires) _ _ _ _ c.loop-w.invariant _ _ (omega arith) c.find_parts-parts.ensures c.if-left.false _ _ _ c.write_parts.ensures
-
-pub overflow_add-w : goal.overflow_add-w
-overflow_add-w c = omega (arith, c.loop-w.invariant.few, c.requires.rows_found.places_ready.placed.few)
-
-pub loop-w-smaller : goal.loop-w-smaller
-loop-w-smaller c = omega arith
+mark_seam-requires c = filling_cuts _ _ _ _ _ _ _ (fit-kept _ _ _ _ _ _ c.empty_pairs.ensures.kept _ _ c.requires) _ _ _ _ c.loop-w.invariant _ _ (omega arith) c.in-Some.ensures _ _ _ c.write_parts.ensures
 
 pub loop-w-preserved : goal.loop-w-preserved
-loop-w-preserved c = filling_goes_on _ _ _ _ _ _ _ (fit-kept _ _ _ _ _ _ c.empty_pairs.ensures.kept _ _ c.requires) _ _ _ _ c.loop-w.invariant _ _ (omega arith) c.find_parts-parts.ensures c.if-left.false _ _ _ _ c.write_parts.ensures c.mark_seam.ensures
+loop-w-preserved c = filling_goes_on _ _ _ _ _ _ _ (fit-kept _ _ _ _ _ _ c.empty_pairs.ensures.kept _ _ c.requires) _ _ _ _ c.loop-w.invariant _ _ (omega arith) c.in-Some.ensures _ _ _ _ c.write_parts.ensures c.mark_seam.ensures
 
 pub shape_of-lefts : goal.shape_of-lefts
 shape_of-lefts c = c.loop-w.invariant.lefts_length

@@ -4,8 +4,8 @@ use Rattle.pair_check.proofs.Keys.{key-inside}
 use Rattle.parts.proofs.Marking.{written-single, written-marked}
 use Rattle.parts.proofs.write_parts.Goals as goal
 
-pub returns-then-w-wide : goal.returns-then-w-wide
-returns-then-w-wide c = written-single _ _ _ _ _ _ _ c.wide.ensures.is (omega arith)
+pub returns-then-w-left : goal.returns-then-w-left
+returns-then-w-left c = written-single _ _ _ _ _ _ (omega arith)
 
 pub mark-requires : goal.mark-requires
 mark-requires c = (omega arith, key-inside _ _ _ _ c.pair_key.ensures (omega (arith, c.name_row.ensures.kept.area_length, c.requires.area_room)))

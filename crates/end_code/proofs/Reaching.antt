@@ -125,18 +125,18 @@ module _ (P : PairTables) (side : Side) (n : ℕ) (bytes : List ℕ) (i : ℕ) (
           pub joined-row : r < n
           joined-row = ⊎_elim (λ z. absurd (ne z)) (λ h. h) F.bound
 
-          pub joined-part : PartReady lefts rights r
+          pub joined-part : PartReady P r
           joined-part = part-ready P n S.ready.is_in_form r joined-row
 
-          pub joined-other : (o : ℕ) → o ≡ other_of lefts rights side r → o < n
+          pub joined-other : (o : ℕ) → o ≡ other_of P side r → o < n
           joined-other o e = rw e (other_row P n S.ready.is_in_form r joined-row side)
 
-          module _ (o len : ℕ) (eo : o ≡ other_of lefts rights side r) (x : ℕ) (el : len ≡ length (row file places n x)) (ex : x ≡ o) where
+          module _ (o len : ℕ) (eo : o ≡ other_of P side r) (el : len ≡ length (row file places n o)) where
             row-ready : RowReady file places n o
             row-ready = record { places_ready = S.ready.is_in_form.places_ready; row = joined-other o eo }
 
             len_is : len ≡ length (D.bytes o)
-            len_is = read-size file places n o x len row-ready el ex
+            len_is = read-size file places n o len row-ready el
 
             pub len-some : 0 < len
             len-some = omega (arith, len_is, row-some file places n o row-ready)

@@ -123,7 +123,7 @@ module _ (P : PairTables) (side : Side) (n u s : ℕ) where
           go (yes z) = rw (e, or-none v best z) S.best_row
           go (no z) = rw (e, or_some v best z) (inr (⊎_elim (λ y. absurd (z y)) (λ h. let b = S.most in omega arith) F.bound))
 
-      pub search_next : (best' part bound' : ℕ) → best' ≡ or_else v best → part ≡ inner_of lefts rights side x → (part ≡ x → ⊥) → bound' ≡ bound_at side x
+      pub search_next : (best' part bound' : ℕ) → best' ≡ or_else v best → part ≡ inner_of P side x → (part ≡ x → ⊥) → bound' ≡ bound_at side x
           → (part < x) × Searching P side n u s part bound' best'
       search_next best' part bound' eb ep d eo =
           let low : part < x = rw ep (inner-lower P n S.ready.is_in_form x S.row side (rw (← ep) d)) in
@@ -146,7 +146,7 @@ module _ (P : PairTables) (side : Side) (n u s : ℕ) where
           top_of append = let h = S.row in omega arith
           top_of prepend = let h = S.row in omega arith
 
-      pub search_end : (best' part : ℕ) → best' ≡ or_else v best → part ≡ inner_of lefts rights side x → part ≡ x → FirstIs P side n u s best'
+      pub search_end : (best' part : ℕ) → best' ≡ or_else v best → part ≡ inner_of P side x → part ≡ x → FirstIs P side n u s best'
       search_end best' part eb ep d = record {
         bound = found best' eb;
         built = λ prefixes B.

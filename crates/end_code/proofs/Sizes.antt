@@ -1,23 +1,18 @@
 -- The lengths of rows as they are read, and the entries of a table that is written from its front. Assumes nothing.
-use mathlib.Core.Path.{◌≡◌, refl, ap, ◌∙◌}
+use mathlib.Core.Path.{◌≡◌, ap, ◌∙◌}
 use mathlib.Core.Logic.{⊎_elim}
 use mathlib.Core.List.{List, [], ◌∷◌}
-use Prim.Native.Nat.{ℕ, zero, suc, ◌-◌, ◌<◌}
+use Prim.Native.Nat.{ℕ, suc, ◌-◌, ◌<◌}
 use native.Mathlib.Nat.{eq-or-lt_of_le}
 use native.Mathlib.Omega.{arith}
 use lib.ListN.{length, get_or, set}
+use Rattle.std.proofs.lemmas.List.{get_or_default}
 use lib.Seq.{get_or-set_same, get_or-set_other}
 use Rattle.phrase_file.specs.Form.{rows}
 use Rattle.placed_rows.specs.Rows.{row}
 use Rattle.theory.specs.Parts.{dictionary}
 use Rattle.built_tables.specs.Built.{dictionary_of}
 use Rattle.end_code.specs.Tables.{RowReady}
-
--- the default does not matter below the length
-pub any_default : {A : Type 0} (l : List A) (i : ℕ) (d e : A) → i < length l → get_or l i d ≡ get_or l i e
-any_default [] i d e h = absurd (omega arith)
-any_default (x ∷ l) zero d e h = refl
-any_default (x ∷ l) (suc i) d e h = any_default l i d e (omega arith)
 
 -- what holds of each entry below i and of the one set holds of each below i + 1
 pub at_set : (Q : ℕ → ℕ → Type 0) (l : List ℕ) (i v m : ℕ) → i < length l → m ≡ suc i
@@ -33,11 +28,11 @@ unfolding dictionary_of dictionary
 row-size file places n c R =
     let h = R.row in
     let k = R.places_ready.count in
-    ap length (R.places_ready.rows_are c R.row ∙ any_default (rows file) c [] ((c - length (rows file)) ∷ []) (omega arith))
+    ap length (R.places_ready.rows_are c R.row ∙ get_or_default (rows file) c [] ((c - length (rows file)) ∷ []) (omega arith))
 
 pub row-some : (file places : List ℕ) (n c : ℕ) → RowReady file places n c → 0 < length ((dictionary_of file).bytes c)
 row-some file places n c R = omega (arith, row-size file places n c R, ap length (R.places_ready.rows_are c R.row), R.places_ready.filled c R.row)
 
--- a length that is read by a number x, which is the row
-pub read-size : (file places : List ℕ) (n c x len : ℕ) → RowReady file places n c → len ≡ length (row file places n x) → x ≡ c → len ≡ length ((dictionary_of file).bytes c)
-read-size file places n c x len R e f = e ∙ ap (λ (y : ℕ). length (row file places n y)) f ∙ row-size file places n c R
+-- a length that is read
+pub read-size : (file places : List ℕ) (n c len : ℕ) → RowReady file places n c → len ≡ length (row file places n c) → len ≡ length ((dictionary_of file).bytes c)
+read-size file places n c len R e = e ∙ row-size file places n c R

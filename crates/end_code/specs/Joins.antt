@@ -11,9 +11,9 @@ use Rattle.end_code.specs.Tables.{PartsInForm}
 use Rattle.tables.specs.Tables.{PairTables, with_prefixes}
 
 -- the parts of row x may be read
-pub record PartReady (lefts rights : List ℕ) (x : ℕ) : Type 0 where
-  pub left_room : x < length lefts
-  pub right_room : x < length rights
+pub record PartReady (P : PairTables) (x : ℕ) : Type 0 where
+  pub left_room : x < length P.lefts
+  pub right_room : x < length P.rights
 
 -- what one join below m needs: the rows with their parts, and two rows
 pub record BesideReady (P : PairTables) (n m x s : ℕ) : Type 0 where

@@ -10,13 +10,15 @@ pub returns-then-joined : goal.returns-then-joined
 returns-then-joined c = reach-end _ _ _ _ _ _ _ _ c.loop-at.invariant c.loop-at-test.true _ c.first_join-joined.ensures c.if-joined.true
 
 pub returns-then-at-len : goal.returns-then-at-len
-returns-then-at-len c = reach-short _ _ _ _ _ _ _ _ c.loop-at.invariant c.loop-at-test.true _ c.first_join-joined.ensures c.if-joined.false _ _ c.other_part-other.ensures _ c.length_of-len.ensures.is c.wide.ensures.is c.if-at-len.true
+returns-then-at-len c = reach-short _ _ _ _ _ _ _ _ c.loop-at.invariant c.loop-at-test.true _ c.first_join-joined.ensures c.if-joined.false _ _ c.other_part-other.ensures c.length_of-len.ensures.is c.if-at-len.true
 
 pub loop-at-smaller : goal.loop-at-smaller
-loop-at-smaller c = let z = len-some _ _ _ _ _ _ _ _ c.loop-at.invariant c.loop-at-test.true _ c.first_join-joined.ensures c.if-joined.false _ _ c.other_part-other.ensures _ c.length_of-len.ensures.is c.wide.ensures.is in omega arith
+loop-at-smaller c =
+    let z = len-some _ _ _ _ _ _ _ _ c.loop-at.invariant c.loop-at-test.true _ c.first_join-joined.ensures c.if-joined.false _ _ c.other_part-other.ensures c.length_of-len.ensures.is in
+    omega arith
 
 pub loop-at-preserved : goal.loop-at-preserved
-loop-at-preserved c = reach-join _ _ _ _ _ _ _ _ c.loop-at.invariant c.loop-at-test.true _ c.first_join-joined.ensures c.if-joined.false _ _ c.other_part-other.ensures _ c.length_of-len.ensures.is c.wide.ensures.is (omega arith)
+loop-at-preserved c = reach-join _ _ _ _ _ _ _ _ c.loop-at.invariant c.loop-at-test.true _ c.first_join-joined.ensures c.if-joined.false _ _ c.other_part-other.ensures c.length_of-len.ensures.is (omega arith)
 
 pub returns : goal.returns
 returns c = reach-all _ _ _ _ _ _ _ _ c.loop-at.invariant (omega arith)

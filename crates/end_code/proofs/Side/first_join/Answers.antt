@@ -1,6 +1,6 @@
 -- The loop's invariant: in the passes below the bound x stands where the code ends, and best is the lowest row above. Assumes nothing.
 use Rattle.end_code.proofs.Searching.{search_start, search_next, search_end}
-use Rattle.end_code.proofs.first_join.Goals as goal
+use Rattle.end_code.proofs.Side.first_join.Goals as goal
 
 pub loop-x-init : goal.loop-x-init
 loop-x-init c = search_start _ _ _ _ _ c.requires

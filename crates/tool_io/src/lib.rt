@@ -1,15 +1,14 @@
 // Files by name, refusals in words, and what the commands of `phrases` say.
 #![tactic(auto)]
 
+mod answers;
 mod files;
 mod refusals;
 mod rows;
 mod saying;
 
-pub use files::{
-    Source, Written, read_full, read_given, read_named, say_argument, say_error_result, say_failed,
-    write_named,
-};
-pub use refusals::{say_cause, say_cause_fields, say_cause_result, say_refusal, say_row};
+pub use answers::{Stop, argument_error, file_error, refused};
+pub use files::{ReadError, read_given, read_named, write_named};
+pub use refusals::{Fields, Reason, Refused, Row};
 pub use rows::longest;
-pub use saying::{say_byte, say_codes, say_many, say_quoted};
+pub use saying::{Codes, Escaped, Many, Quoted};

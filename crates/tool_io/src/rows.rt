@@ -1,68 +1,74 @@
 // Rows of a phrase file, read without tables: a refused file has none.
-ghost use Rattle.std.specs.Prelude.{◌≡◌, ◌≤◌, max, length};
+ghost use Rattle.std.specs.Prelude.{◌≤◌, length, All};
+ghost use Rattle.phrase_file.specs.Form.{rows};
 
-use words::is;
+use phrase_file::{num_rows, row_bytes, row_length, row_offset};
 
-// The place after the record at a place.
-fn next_place(file: &[u8], at: usize) -> usize {
-    let size = phrase_file::row_length(file, at);
-    at.wrapping_add(3).wrapping_add(size)
+// The rows of a file from an offset on, one after the other.
+#[derive(Drop)]
+struct FileRows<'a> {
+    file: &'a [u8],
+    at: usize,
+}
+
+impl<'a> Iterator for FileRows<'a> {
+    ghost use Rattle.std.specs.Prelude.{◌-◌};
+    ghost use Rattle.std.specs.Iterator.{at_most};
+
+    type Item = &'a [u8];
+
+    ghost remaining = { λ s. at_most (length s.file.now - s.at) };
+
+    #[tactic(auto, using(crate::proofs::Lengths::row_fits))]
+    fn next(&mut self) -> Option<&'a [u8]> {
+        let (file, at) = (self.file, self.at);
+        let size = row_length(file, at);
+        if size == 0 {
+            return None;
+        }
+        self.at = at + 3 + size;
+        Some(row_bytes(file, at))
+    }
+}
+
+// All of them.
+fn rows(file: &[u8]) -> FileRows<'_> {
+    FileRows { file, at: 0 }
 }
 
 // The bytes of a row; none where there is no such row.
 pub(crate) fn bytes_of(file: &[u8], row: usize) -> &[u8] {
-    phrase_file::row_bytes(file, phrase_file::row_offset(file, row))
+    row_bytes(file, row_offset(file, row))
 }
 
 // The first row with these bytes; the count of rows if there is none.
 pub(crate) fn row_with(file: &[u8], bytes: &[u8]) -> usize {
-    let n = phrase_file::num_rows(file);
-    let mut at = 0;
-    let mut row = 0;
-    while row < n {
-        if is(phrase_file::row_bytes(file, at), bytes) {
-            return row;
-        }
-        at = next_place(file, at);
-        row += 1;
-    }
-    row
+    rows(file)
+        .position(|row| row == bytes)
+        .unwrap_or(num_rows(file))
 }
 
 // The first row with this hash; the count of rows if there is none.
 pub(crate) fn row_with_hash(file: &[u8], hash: u32, factor: u64) -> usize {
-    let n = phrase_file::num_rows(file);
-    let mut at = 0;
-    let mut row = 0;
-    while row < n {
-        if fnv::hash_bytes(phrase_file::row_bytes(file, at), factor) == hash {
-            return row;
-        }
-        at = next_place(file, at);
-        row += 1;
-    }
-    row
-}
-
-// The greater of two numbers.
-fn greater(a: usize, b: usize) -> usize
-    ensures { result ≡ max a b }
-{
-    if a < b { b } else { a }
+    rows(file)
+        .position(|row| fnv::hash_bytes(row, factor) == hash)
+        .unwrap_or(num_rows(file))
 }
 
 // The length of the longest row: no more than the file has bytes.
+#[tactic(auto, using(crate::proofs::Lengths::row_fits))]
 pub fn longest(file: &[u8]) -> usize
-    ensures { result ≤ length file.now }
+    ensures inside { result ≤ length file.now }
+    ensures longest { All (λ row. length row ≤ result) (rows file.now) }
 {
-    let n = phrase_file::num_rows(file);
     let mut most = 0;
     let mut at = 0;
-    let mut row = 0;
-    while row < n {
-        most = greater(most, phrase_file::row_length(file, at));
-        at = next_place(file, at);
-        row += 1;
+    loop {
+        let size = row_length(file, at);
+        if size == 0 {
+            return most;
+        }
+        most = most.max(size);
+        at = at + 3 + size;
     }
-    most
 }

@@ -1,72 +1,62 @@
-// Bytes and codes as people read them.
-use std::io;
-use words::{say, say_number, wide};
+// Bytes, codes and counts as people read them.
+use std::fmt;
 
-// A byte as \xNN.
-fn say_hex(rt: &impl Print, byte: u8) -> io::Result<()> {
-    say(rt, b"\\x")?;
-    print!(rt; "{byte:02x}")
+// A byte as it is or, where it is not printable, in the sheet's escapes: ASCII from the space to the tilde is printed
+// as it is, but for a backslash.
+#[derive(Clone, Copy)]
+pub struct Escaped(pub u8);
+
+impl fmt::Display for Escaped {
+    fn fmt<W: fmt::Write>(&self, f: &mut fmt::Formatter<W>) -> fmt::Result {
+        let byte = self.0;
+        match byte {
+            b'\\' => write!(f, "\\\\"),
+            b'\t' => write!(f, "\\t"),
+            b'\n' => write!(f, "\\n"),
+            b' '..=b'~' => write!(f, "{}", char::from(byte)),
+            _ => write!(f, "\\x{byte:02x}"),
+        }
+    }
 }
 
-// Whether a byte is printed as it is: ASCII from the space to the tilde, but no backslash.
-fn is_plain(byte: u8) -> bool {
-    if byte == b'\\' {
-        return false;
-    }
-    if byte < b' ' {
-        return false;
-    }
-    byte <= b'~'
-}
+// Bytes in quotes.
+#[derive(Clone, Copy)]
+pub struct Quoted<'a>(pub &'a [u8]);
 
-// A byte as it is or, where it is not printable, in the sheet's escapes.
-pub fn say_byte(rt: &impl Print, byte: u8) -> io::Result<()> {
-    if is_plain(byte) {
-        return say(rt, &[byte]);
+impl fmt::Display for Quoted<'_> {
+    fn fmt<W: fmt::Write>(&self, f: &mut fmt::Formatter<W>) -> fmt::Result {
+        write!(f, "'")?;
+        for byte in self.0 {
+            write!(f, "{}", Escaped(*byte))?;
+        }
+        write!(f, "'")
     }
-    if byte == b'\\' {
-        return say(rt, b"\\\\");
-    }
-    if byte == b'\t' {
-        return say(rt, b"\\t");
-    }
-    if byte == b'\n' {
-        return say(rt, b"\\n");
-    }
-    say_hex(rt, byte)
-}
-
-// Bytes in quotes, each as `say_byte` prints it.
-pub fn say_quoted(rt: &impl Print, text: &[u8]) -> io::Result<()> {
-    say(rt, b"'")?;
-    let mut i = 0;
-    while i < text.len() {
-        say_byte(rt, text[i])?;
-        i += 1;
-    }
-    say(rt, b"'")
 }
 
 // Numbers with a space between them.
-pub fn say_codes(rt: &impl Print, codes: &[u32]) -> io::Result<()> {
-    let mut i = 0;
-    while i < codes.len() {
-        if i != 0 {
-            say(rt, b" ")?;
+#[derive(Clone, Copy)]
+pub struct Codes<'a>(pub &'a [u32]);
+
+impl fmt::Display for Codes<'_> {
+    fn fmt<W: fmt::Write>(&self, f: &mut fmt::Formatter<W>) -> fmt::Result {
+        for (i, code) in self.0.iter().enumerate() {
+            if i != 0 {
+                write!(f, " ")?;
+            }
+            write!(f, "{code}")?;
         }
-        say_number(rt, wide(codes[i]))?;
-        i += 1;
+        Ok(())
     }
-    Ok(())
 }
 
 // A number of things: `1 code`, `2 codes`.
-pub fn say_many(rt: &impl Print, n: usize, name: &[u8]) -> io::Result<()> {
-    say_number(rt, n as u64)?;
-    say(rt, b" ")?;
-    say(rt, name)?;
-    if n != 1 {
-        say(rt, b"s")?;
+#[derive(Clone, Copy)]
+pub struct Many(pub usize, pub &'static str);
+
+impl fmt::Display for Many {
+    fn fmt<W: fmt::Write>(&self, f: &mut fmt::Formatter<W>) -> fmt::Result {
+        let Many(count, name) = *self;
+        let end = if count == 1 { "" } else { "s" };
+        write!(f, "{count} {name}{end}")
     }
-    Ok(())
 }

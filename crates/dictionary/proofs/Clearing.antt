@@ -1,26 +1,11 @@
 -- Buffers whose first numbers are cleared. Assumes nothing.
 use mathlib.Core.Path.{◌≡◌, ap}
 use mathlib.Core.List.{List, ◌++◌}
-use Prim.Native.Nat.{ℕ, ◌+◌, ◌≤◌, ◌<◌}
-use lib.ListN.{length, set, replicate}
+use Prim.Native.Nat.{ℕ}
+use lib.ListN.{replicate}
 use Rattle.theory.specs.Dictionary.{none}
-use Rattle.clashes.specs.Buckets.{emptied}
-use Rattle.clashes.proofs.Chains.{emptied-start, emptied-more, emptied-length}
 use Rattle.tables.specs.Tables.{Tables, tables}
 use Rattle.dictionary.specs.Build.{cleared, all_cleared, beyond}
-
-module _ (t : List ℕ) where
-  pub cleared-start : t ≡ cleared 0 t
-  unfolding cleared emptied
-  cleared-start = emptied-start t
-
-  pub cleared_more : (i : ℕ) → i < length t → set (cleared i t) i none ≡ cleared (i + 1) t
-  unfolding cleared emptied
-  cleared_more i h = emptied-more t i h
-
-  pub cleared-length : (i : ℕ) → i ≤ length t → length (cleared i t) ≡ length t
-  unfolding cleared emptied
-  cleared-length i h = emptied-length t i h
 
 -- what is cleared does not depend on what was there
 pub cleared-beyond : (n : ℕ) (T T' : Tables) → beyond n T' ≡ beyond n T → all_cleared n T' ≡ all_cleared n T

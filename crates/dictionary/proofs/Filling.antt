@@ -10,9 +10,10 @@ use borrow.Author.Tests.{lt-ltb, le-ltb}
 use Rattle.theory.proofs.Lists.{lt_or_ge}
 use Rattle.causes.specs.declared.Cause.{Cause}
 use Rattle.causes.specs.declared.Cause.TheVariants.{EqualRow, SameHash, NoParts}
-use Rattle.causes.specs.declared.BuildAnswer.{BuildAnswer}
-use Rattle.causes.specs.declared.BuildAnswer.TheVariants.{Rows, Refused}
+use Rattle.std.specs.Prelude.{Result, Ok, Err}
+use Rattle.causes.proofs.Calls.{ok_err, ok_same}
 use Rattle.phrase_file.specs.Form.{places}
+use Rattle.phrase_file.specs.Checks.{check_of}
 use Rattle.phrase_file.specs.Post.{PlacesFit}
 use Rattle.phrase_file.proofs.Checks.{accepted}
 use Rattle.placed_rows.specs.Rows.{row, Placed}
@@ -21,12 +22,32 @@ use Rattle.search_fill.specs.Filled.{Filled}
 use Rattle.built_tables.specs.Built.{Built}
 use Rattle.parts.specs.Parts.{PartsFit, PartsFilled}
 use Rattle.tables.specs.Tables.{Tables, tables}
-use Rattle.dictionary.specs.Build.{equal_row, beyond}
-use Rattle.dictionary.specs.Steps.{rows_answer, shared_hash, Buildable, RowsFit, Searched, RowsFilled, clash_cause, ClashTold, TablesFilled}
+use Rattle.dictionary.specs.Build.{equal_row}
+use Rattle.dictionary.specs.Steps.{rows_answer, shared_hash, Buildable, Searched, clash_cause, ClashTold, TablesFilled}
 use Rattle.dictionary.proofs.Sizes.{Large, large, not_short}
 use Rattle.dictionary.proofs.Rows as Table
 use Rattle.dictionary.proofs.Finding.{searched, is-built}
-use Rattle.dictionary.proofs.Building.{refused-rows, same_rows, answer-equal, answer_hash, answer-parts, answer-rows}
+use Rattle.dictionary.proofs.Building.{answer-equal, answer_hash, answer-parts, answer-rows}
+
+-- a file with n rows that passes 2 to 4, and places, prefixes and search area that are large enough
+pub record RowsFit (file placeTable prefixes area : List ℕ) (n : ℕ) : Type 0 where
+  pub passed : check_of file ≡ Ok n
+  pub places_room : n ≤ length placeTable
+  pub prefixes_room : n ≤ length prefixes
+  pub area_room : 16384 ≤ length area
+
+-- the places are written, and r is the lowest row with the hash of an earlier row; where there is none, prefixes and
+-- search area are found. What is beyond is unchanged
+pub record RowsFilled (file : List ℕ) (factor n : ℕ) (placeTable prefixes area placeTable' prefixes' area' : List ℕ) (r : ℕ) : Type 0 where
+  pub answer : r ≡ shared_hash file factor
+  pub places_are : take n placeTable' ≡ places file
+  pub searched : n ≤ r → Searched file placeTable' prefixes' area' n
+  pub places_length : length placeTable' ≡ length placeTable
+  pub prefixes_length : length prefixes' ≡ length prefixes
+  pub area_length : length area' ≡ length area
+  pub places_beyond : drop n placeTable' ≡ drop n placeTable
+  pub prefixes_beyond : drop n prefixes' ≡ drop n prefixes
+  pub area_beyond : drop 16384 area' ≡ drop 16384 area
 
 module _ (file placeTable prefixes area : List ℕ) (factor n : ℕ) (R : RowsFit file placeTable prefixes area n) where
   pub places_fit : PlacesFit file placeTable
@@ -97,11 +118,11 @@ module _ (T : Tables) (factor n : ℕ) (A : Buildable factor T n) where
 
   -- the rows were filled
   module _ (placeTable' prefixes' area' : List ℕ) (shared : ℕ) (R : RowsFilled file factor n placeTable prefixes area placeTable' prefixes' area' shared) where
-    filled-tables : (lefts' rights' area₂ : List ℕ) (r : BuildAnswer)
+    filled-tables : (lefts' rights' area₂ : List ℕ) (r : Result ℕ Cause)
         → length lefts' ≡ length lefts → length rights' ≡ length rights → drop n lefts' ≡ drop n lefts → drop n rights' ≡ drop n rights
         → length area₂ ≡ length area' → drop 16384 area₂ ≡ drop 16384 area'
         → r ≡ rows_answer factor T n
-        → ((m : ℕ) → r ≡ Rows m → Built (tables file placeTable' lefts' rights' prefixes' area₂) m)
+        → ((m : ℕ) → r ≡ Ok m → Built (tables file placeTable' lefts' rights' prefixes' area₂) m)
         → TablesFilled factor n T (tables file placeTable' lefts' rights' prefixes' area₂) r
     filled-tables lefts' rights' area₂ r ll rl lb rb al ab a t = record {
       answer = a;
@@ -130,14 +151,14 @@ module _ (T : Tables) (factor n : ℕ) (A : Buildable factor T n) where
         C.answer ∙ ap (clash_cause n shared) (Table.first-is file n A.passed placeTable' R.places_are is_equal)
 
     pub clash-filled : (area₂ : List ℕ) (cause : Cause) → ClashTold file placeTable' n shared area' area₂ cause → shared < n
-        → TablesFilled factor n T (tables file placeTable' lefts rights prefixes' area₂) (Refused cause)
+        → TablesFilled factor n T (tables file placeTable' lefts rights prefixes' area₂) (Err cause)
     clash-filled area₂ cause C h =
-        filled-tables lefts rights area₂ (Refused cause) refl refl refl refl C.area_length C.area_beyond
+        filled-tables lefts rights area₂ (Err cause) refl refl refl refl C.area_length C.area_beyond
         (⊎_elim
-        (λ l. ap Refused (equal l) ∙ answer-equal factor T n A l)
-        (λ l. ap Refused (other l) ∙ answer_hash factor T n A shared R.answer l h)
+        (λ l. ap Err (equal l) ∙ answer-equal factor T n A l)
+        (λ l. ap Err (other l) ∙ answer_hash factor T n A shared R.answer l h)
         (lt_or_ge (equal_row file) n))
-        (λ m e. absurd (refused-rows cause m e))
+        (λ m e. ok_err (sym e))
       where
         equal : equal_row file < n → cause ≡ EqualRow (equal_row file)
         equal l = clash-told area₂ cause C ∙ rw (lt-ltb (equal_row file) n l, clash_cause)
@@ -154,13 +175,13 @@ module _ (T : Tables) (factor n : ℕ) (A : Buildable factor T n) where
 
       -- the parts were filled
       module _ (lefts' rights' area₂ : List ℕ) (without : ℕ) (P : PartsFilled file lefts rights area' lefts' rights' area₂ n without) where
-        pub parts-filled : without < n → TablesFilled factor n T (tables file placeTable' lefts' rights' prefixes' area₂) (Refused (NoParts without))
+        pub parts-filled : without < n → TablesFilled factor n T (tables file placeTable' lefts' rights' prefixes' area₂) (Err (NoParts without))
         parts-filled h =
-            filled-tables lefts' rights' area₂ (Refused (NoParts without)) P.lefts_length P.rights_length P.lefts_beyond P.rights_beyond
-            P.area_kept.area_length P.area_kept.beyond (answer-parts factor T n A shared R.answer d without P.answer h) (λ m e. absurd (refused-rows (NoParts without) m e))
+            filled-tables lefts' rights' area₂ (Err (NoParts without)) P.lefts_length P.rights_length P.lefts_beyond P.rights_beyond
+            P.area_kept.area_length P.area_kept.beyond (answer-parts factor T n A shared R.answer d without P.answer h) (λ m e. ok_err (sym e))
 
-        pub rows-filled : n ≤ without → TablesFilled factor n T (tables file placeTable' lefts' rights' prefixes' area₂) (Rows n)
+        pub rows-filled : n ≤ without → TablesFilled factor n T (tables file placeTable' lefts' rights' prefixes' area₂) (Ok n)
         rows-filled h =
-            filled-tables lefts' rights' area₂ (Rows n) P.lefts_length P.rights_length P.lefts_beyond P.rights_beyond
+            filled-tables lefts' rights' area₂ (Ok n) P.lefts_length P.rights_length P.lefts_beyond P.rights_beyond
             P.area_kept.area_length P.area_kept.beyond (answer-rows factor T n A shared R.answer d without P.answer h)
-            (λ m e. rw (← same_rows n m e) (is-built file placeTable' prefixes' area' lefts rights lefts' rights' area₂ n without A.passed R.places_are S P h))
+            (λ m e. rw (← ok_same e) (is-built file placeTable' prefixes' area' lefts rights lefts' rights' area₂ n without A.passed R.places_are S P h))

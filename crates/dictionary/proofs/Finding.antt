@@ -3,11 +3,10 @@ use mathlib.Core.Path.{◌≡◌, refl, sym, ap, ◌∙◌}
 use mathlib.Core.List.{List, [], ◌∷◌}
 use mathlib.Core.Bool.{Bool, true, false}
 use mathlib.Core.Option.{Option, some}
-use mathlib.Core.Option as Option
 use Prim.Native.Nat.{ℕ, zero, suc, ◌≤◌, ◌<◌}
 use native.Mathlib.Omega.{arith}
 use lib.ListN.{length, get_or, take}
-use Rattle.causes.specs.declared.BuildAnswer.TheVariants.{Rows}
+use Rattle.std.specs.Prelude.{Ok}
 use Rattle.phrase_file.specs.Form.{places, rows}
 use Rattle.phrase_file.specs.Checks.{check_of}
 use Rattle.phrase_file.proofs.Checks.{accepted}
@@ -37,7 +36,7 @@ find-low (r ∷ rs) b (suc i) h e = go (equal r b) refl (find-low rs b i (omega 
 
 -- the search area and the prefixes are filled for rows that differ
 module _ (file table prefixes area prefixes' area' : List ℕ) (factor n : ℕ)
-    (passed : check_of file ≡ Rows n) (written : take n table ≡ places file) (none : n ≤ shared_hash file factor)
+    (passed : check_of file ≡ Ok n) (written : take n table ≡ places file) (none : n ≤ shared_hash file factor)
     (prefixes_room : n ≤ length prefixes) (area_room : 16384 ≤ length area) (F : Filled file table n prefixes area prefixes' area') where
   rows_found : RowsFound file table area' n
   rows_found = record {
@@ -55,7 +54,7 @@ module _ (file table prefixes area prefixes' area' : List ℕ) (factor n : ℕ)
 
 -- all rows have parts
 module _ (file table prefixes area lefts rights lefts' rights' area' : List ℕ) (n without : ℕ)
-    (passed : check_of file ≡ Rows n) (written : take n table ≡ places file) (S : Searched file table prefixes area n) (P : PartsFilled file lefts rights area lefts' rights' area' n without) (all : n ≤ without) where
+    (passed : check_of file ≡ Ok n) (written : take n table ≡ places file) (S : Searched file table prefixes area n) (P : PartsFilled file lefts rights area lefts' rights' area' n without) (all : n ≤ without) where
   count : n ≡ length (rows file)
   count = S.rows_found.places_ready.count
 

@@ -6,18 +6,17 @@ use mathlib.Core.Bool.{Bool}
 use Prim.Native.Nat.{ℕ, ◌≤◌, ◌<◌}
 use native.Mathlib.Decide.{dec_lt}
 use native.Mathlib.Omega.{arith}
-use lib.ListN.{length, length-append, length-drop, length-take, get_or, take, drop, get_or-eq_default}
-use lib.Seq.{get_or-take, take_at, drop_at}
-use borrow.Author.Tests.{lt-ltb}
-use Rattle.causes.specs.declared.BuildAnswer.TheVariants.{Rows}
+use lib.ListN.{length, length-append, length-drop, get_or, take, drop, get_or-eq_default}
+use lib.Seq.{take_at, drop_at}
+use Rattle.std.specs.Prelude.{Ok}
 use Rattle.phrase_file.specs.Form.{places, rows}
 use Rattle.phrase_file.specs.Checks.{check_of}
 use Rattle.phrase_file.specs.Post.{PlacesFit}
 use Rattle.phrase_file.proofs.Checks.{Accepted, accepted}
-use Rattle.phrase_file.proofs.Rows.{RowIs, row_is}
 use Rattle.placed_rows.specs.Rows.{row}
 use Rattle.placed_rows.proofs.Placing.{row-none}
 use Rattle.tables.specs.Ready.{PlacesReady}
+use Rattle.tables.proofs.Placing as Placing
 use Rattle.pair_check.specs.Pair.{Distinct}
 use Rattle.clashes.specs.Clashes.{first_with, shares_hash}
 use Rattle.clashes.proofs.Laws.{apart}
@@ -27,7 +26,7 @@ use Rattle.theory.proofs.Lists.{lt_or_ge}
 use Rattle.dictionary.specs.Build.{bytes_at}
 use Rattle.dictionary.specs.Steps.{shared_hash}
 
-module _ (file : List ℕ) (n : ℕ) (passed : check_of file ≡ Rows n) where
+module _ (file : List ℕ) (n : ℕ) (passed : check_of file ≡ Ok n) where
   checked : Accepted file n
   checked = accepted file n passed
 
@@ -48,26 +47,8 @@ module _ (file : List ℕ) (n : ℕ) (passed : check_of file ≡ Rows n) where
         ap length e ∙ length-append (places file) (drop (length (places file)) table) ∙ omega (arith, length-drop (length (places file)) table, checked.count_places)
 
   module _ (table : List ℕ) (written : take n table ≡ places file) where
-    place_is : (c : ℕ) → c < n → get_or table c 0 ≡ get_or (places file) c 0
-    place_is c h = sym (get_or-take n table c 0 h) ∙ ap (λ (l : List ℕ). get_or l c 0) written
-
-    file-row : (c : ℕ) → c < n → RowIs file c
-    file-row c h = let e = checked.count in row_is file c (omega arith)
-
     pub places_ready : PlacesReady file table n
-    unfolding row
-    places_ready = record {
-      count = checked.count;
-      least = checked.least;
-      placed = record {
-        few = checked.most;
-        places_fit = omega (arith, ap length written, length-take n table, checked.count_places);
-        inside = λ c h. let r = file-row c h in rw (place_is c h) (omega (arith, r.inside, r.size));
-      };
-      rows_are = λ c h. rw (lt-ltb c n h, row, place_is c h) (sym (file-row c h).bytes);
-      filled = λ c h. (file-row c h).some;
-      short = λ c h. (file-row c h).most;
-    }
+    places_ready = Placing.places_ready file table n passed written
 
     -- a row as it is read, also from n on
     row_read : (c : ℕ) → row file table n c ≡ get_or (rows file) c []

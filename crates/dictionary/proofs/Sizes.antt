@@ -1,10 +1,10 @@
 -- Buffers that are large enough, case by case. Assumes nothing.
 use mathlib.Core.Path.{◌≡◌, refl}
 use mathlib.Core.Bool.{Bool, true, false, ◌||◌}
-use Prim.Native.Nat.{ℕ, ◌≤◌, ◌<◌}
+use Prim.Native.Nat.{ℕ, ◌≤◌}
 use lib.ListN.{length}
 use lib.Dec.{ltb}
-use borrow.Author.Tests.{lt-ltb, le-ltb, ltb-false}
+use borrow.Author.Tests.{le-ltb, ltb-false}
 use Rattle.theory.proofs.Lists.{true-false}
 use Rattle.tables.specs.Tables.{Tables}
 use Rattle.dictionary.specs.Build.{too_short}
@@ -46,26 +46,3 @@ module _ (T : Tables) (n : ℕ) where
     le-ltb _ _ l.prefixes_room,
     le-ltb _ _ l.area_room,
   )
-
-  pub short-places : length T.places < n → true ≡ too_short T n
-  unfolding too_short
-  short-places h = rw (lt-ltb _ _ h)
-
-  module _ (p : n ≤ length T.places) where
-    pub short-lefts : length T.lefts < n → true ≡ too_short T n
-    unfolding too_short
-    short-lefts h = rw (le-ltb _ _ p, lt-ltb _ _ h)
-
-    module _ (l : n ≤ length T.lefts) where
-      pub short-rights : length T.rights < n → true ≡ too_short T n
-      unfolding too_short
-      short-rights h = rw (le-ltb _ _ p, le-ltb _ _ l, lt-ltb _ _ h)
-
-      module _ (r : n ≤ length T.rights) where
-        pub short-prefixes : length T.prefixes < n → true ≡ too_short T n
-        unfolding too_short
-        short-prefixes h = rw (le-ltb _ _ p, le-ltb _ _ l, le-ltb _ _ r, lt-ltb _ _ h)
-
-        pub short-area : n ≤ length T.prefixes → ltb (length T.area) 16384 ≡ too_short T n
-        unfolding too_short
-        short-area h = rw (le-ltb _ _ p, le-ltb _ _ l, le-ltb _ _ r, le-ltb _ _ h)

@@ -1,14 +1,13 @@
 -- The answer of build, and what it leaves in the lent tables: document 01, "Building" and "Causes", and document 02,
 -- ticket 1.
-use Rattle.std.specs.Prelude.{◌≡◌, List, [], ◌∷◌, ◌++◌, Bool, cond, ◌||◌, ℕ, length, get_or, drop, replicate, ltb, eqb}
+use Rattle.std.specs.Prelude.{◌≡◌, List, [], ◌∷◌, ◌++◌, Bool, cond, ◌||◌, ℕ, length, get_or, drop, replicate, ltb, eqb, Result}
 use Rattle.std.proofs.Math.Option.{Option}
 use Rattle.marks.specs.Layout.{area_size}
 use Rattle.causes.specs.declared.Cause.{Cause}
 use Rattle.causes.specs.declared.Cause.TheVariants.{FactorZero, EqualRow, SameHash, NoParts, TooShort}
-use Rattle.causes.specs.declared.BuildAnswer.{BuildAnswer}
 use Rattle.causes.specs.Causes.{refusal_of}
 use Rattle.causes.specs.Order.{build_order, Condition, when, first_of}
-use Rattle.causes.specs.Call.{Call, to_rows}
+use Rattle.causes.specs.Call.{Call, to_number}
 use Rattle.phrase_file.specs.Form.{rows}
 use Rattle.phrase_file.specs.Checks.{file_conditions}
 use Rattle.theory.specs.Dictionary.{none}
@@ -88,6 +87,6 @@ pub record Accepting (n : ℕ) (T T' : Tables) : Type 0 where
   pub beyond_kept : beyond n T' ≡ beyond n T
 
 -- build: the answer is the count of rows, and T' the tables that it leaves of T
-abbrev pub BuildIs : (factor : ℕ) (T T' : Tables) → BuildAnswer → Type 0
+abbrev pub BuildIs : (factor : ℕ) (T T' : Tables) → Result ℕ Cause → Type 0
 BuildIs factor T T' r =
-    Call to_rows (build_refusal factor T) (λ cause. T' ≡ after_refusal cause T) (λ n. Accepting n T T') r
+    Call to_number (build_refusal factor T) (λ cause. T' ≡ after_refusal cause T) (λ n. Accepting n T T') r

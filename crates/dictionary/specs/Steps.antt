@@ -1,13 +1,11 @@
 -- The steps of build: what each requires, and what it leaves.
-use Rattle.std.specs.Prelude.{◌≡◌, List, true, false, ℕ, ◌≤◌, length, take, drop, ltb}
+use Rattle.std.specs.Prelude.{◌≡◌, List, true, false, ℕ, length, drop, ltb, Result, Ok}
 use Rattle.marks.specs.Layout.{area_size}
-use Rattle.causes.specs.declared.BuildAnswer.{BuildAnswer}
-use Rattle.causes.specs.declared.BuildAnswer.TheVariants.{Rows}
 use Rattle.causes.specs.declared.Cause.{Cause}
 use Rattle.causes.specs.declared.Cause.TheVariants.{EqualRow, SameHash}
 use Rattle.causes.specs.Order.{build_order, first_of}
-use Rattle.causes.specs.Call.{saying, to_rows}
-use Rattle.phrase_file.specs.Form.{places, rows}
+use Rattle.causes.specs.Call.{saying}
+use Rattle.phrase_file.specs.Form.{rows}
 use Rattle.phrase_file.specs.Checks.{check_of}
 use Rattle.tables.specs.Tables.{Tables}
 use Rattle.built_tables.specs.Built.{Built}
@@ -17,8 +15,8 @@ use Rattle.parts.specs.Parts.{RowsFound, PrefixesFound}
 use Rattle.dictionary.specs.Build.{too_short, bytes_at, row_conditions, beyond}
 
 -- the answer for a file that the causes 1 to 4 and 7 do not refuse: 5, 13, 6, or the count of rows
-unfoldable pub rows_answer : ℕ → Tables → ℕ → BuildAnswer
-rows_answer factor T n = saying to_rows (first_of build_order (row_conditions factor T.file n)) n
+unfoldable pub rows_answer : ℕ → Tables → ℕ → Result ℕ Cause
+rows_answer factor T n = saying (first_of build_order (row_conditions factor T.file n)) n
 
 -- the lowest row with the hash of an earlier row, whatever their bytes, n where there is none: then there is neither 5
 -- nor 13
@@ -28,34 +26,13 @@ shared_hash file factor = first_with (shares_hash (bytes_at file) factor) (lengt
 -- a file with n rows that passes 2 to 4, a factor other than 0, and buffers that are large enough
 pub record Buildable (factor : ℕ) (T : Tables) (n : ℕ) : Type 0 where
   pub some_factor : factor ≡ 0 → ⊥
-  pub passed : check_of T.file ≡ Rows n
+  pub passed : check_of T.file ≡ Ok n
   pub room : too_short T n ≡ false
-
--- the same for the places, the prefixes and the search area alone
-pub record RowsFit (file placeTable prefixes area : List ℕ) (n : ℕ) : Type 0 where
-  pub passed : check_of file ≡ Rows n
-  pub places_room : n ≤ length placeTable
-  pub prefixes_room : n ≤ length prefixes
-  pub area_room : area_size ≤ length area
 
 -- the prefixes and the search area are found for rows that differ
 pub record Searched (file placeTable prefixes area : List ℕ) (n : ℕ) : Type 0 where
   pub rows_found : RowsFound file placeTable area n
   pub prefixes_found : PrefixesFound file placeTable prefixes n
-
--- the places are written, and r is the lowest row with the hash of an earlier row; where there is none, prefixes and
--- search area are found. What is beyond is unchanged
-pub record RowsFilled (file : List ℕ) (factor n : ℕ) (placeTable prefixes area placeTable' prefixes' area' : List ℕ)
-    (r : ℕ) : Type 0 where
-  pub answer : r ≡ shared_hash file factor
-  pub places_are : take n placeTable' ≡ places file
-  pub searched : n ≤ r → Searched file placeTable' prefixes' area' n
-  pub places_length : length placeTable' ≡ length placeTable
-  pub prefixes_length : length prefixes' ≡ length prefixes
-  pub area_length : length area' ≡ length area
-  pub places_beyond : drop n placeTable' ≡ drop n placeTable
-  pub prefixes_beyond : drop n prefixes' ≡ drop n prefixes
-  pub area_beyond : drop area_size area' ≡ drop area_size area
 
 -- why n rows are refused of which `shared` is the lowest with the hash of an earlier one: 5 if a row `equal` has the
 -- bytes of an earlier one, else 13
@@ -69,8 +46,8 @@ pub record ClashTold (file placeTable : List ℕ) (n shared : ℕ) (area area' :
   pub area_beyond : drop area_size area' ≡ drop area_size area
 
 -- the answer r, and tables T' that are built if it is no refusal. What is beyond is unchanged
-pub record TablesFilled (factor n : ℕ) (T T' : Tables) (r : BuildAnswer) : Type 0 where
+pub record TablesFilled (factor n : ℕ) (T T' : Tables) (r : Result ℕ Cause) : Type 0 where
   pub answer : r ≡ rows_answer factor T n
-  pub built : (m : ℕ) → r ≡ Rows m → Built T' m
+  pub built : (m : ℕ) → r ≡ Ok m → Built T' m
   pub room : too_short T' n ≡ false
   pub beyond_kept : beyond n T' ≡ beyond n T

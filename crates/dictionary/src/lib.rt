@@ -4,39 +4,24 @@
 
 ghost use Rattle.std.specs.Prelude.{◌≡◌, false, ◌<◌, ◌≤◌, length};
 ghost use Rattle.dictionary.specs.Build.{too_short, cleared, all_cleared, BuildIs};
-ghost use Rattle.dictionary.specs.Steps.{Buildable, RowsFit, RowsFilled, ClashTold, TablesFilled};
-ghost use Rattle.placed_rows.specs.Rows.{Placed};
+ghost use Rattle.dictionary.specs.Steps.{Buildable, ClashTold, TablesFilled};
 ghost use Rattle.tables.specs.Tables.{tables, lent, lent_to_fill, left};
 
-use causes::{BuildAnswer, Cause};
+use causes::Cause;
 use marks::AREA;
-use placed_rows::NONE;
+use placed_rows::{NONE, Rows};
+use tables::Tables;
 
 // Whether a table has fewer than n entries, or the search area fewer than it needs.
-fn are_short(
-    file: &[u8],
-    places: &[u32],
-    lefts: &[u32],
-    rights: &[u32],
-    prefixes: &[u32],
-    area: &[u32],
-    n: usize,
-) -> bool
-    ensures { result ≡ too_short (lent file places lefts rights prefixes area) n }
+#[tactic(auto, unfolding(crate::specs::Build::too_short))]
+fn are_short(tables: &Tables<'_>, n: usize) -> bool
+    ensures { result ≡ too_short (lent tables.now) n }
 {
-    if places.len() < n {
-        return true;
-    }
-    if lefts.len() < n {
-        return true;
-    }
-    if rights.len() < n {
-        return true;
-    }
-    if prefixes.len() < n {
-        return true;
-    }
-    area.len() < AREA
+    tables.places.len() < n
+        || tables.lefts.len() < n
+        || tables.rights.len() < n
+        || tables.prefixes.len() < n
+        || tables.area.len() < AREA
 }
 
 // The first `size` entries become NONE.
@@ -44,11 +29,7 @@ fn clear(table: &mut [u32], size: usize)
     requires { size ≤ length table.old }
     ensures { table.new ≡ cleared size table.old }
 {
-    let mut i = 0;
-    while i < size {
-        table[i] = NONE;
-        i += 1;
-    }
+    table[..size].fill(NONE);
 }
 
 // The first n entries of each table and the search area become NONE.
@@ -72,46 +53,22 @@ fn clear_all(
     clear(area, AREA);
 }
 
-// Writes the places, looks for two rows with one hash and, where there are none, fills the prefixes and the search
-// area. Says which row is the lowest with the hash of an earlier row, n where there is none. So a file that is accepted
-// needs no look at the bytes of two rows.
-fn fill_rows(
-    file: &[u8],
-    factor: u64,
-    places: &mut [u32],
-    prefixes: &mut [u32],
-    area: &mut [u32],
-    n: usize,
-) -> usize
-    requires { RowsFit file.now places.old prefixes.old area.old n }
-    ensures { RowsFilled file.now factor n places.old prefixes.old area.old
-        places.new prefixes.new area.new result }
-{
-    phrase_file::fill_places(file, places);
-    let lowest = clashes::first_shared(file, places, n, factor, area);
-    if lowest < n {
-        return lowest;
-    }
-    search_fill::fill(file, places, prefixes, area, n);
-    lowest
-}
-
 // Why a file is refused in which `shared` is the lowest row with the hash of an earlier one: two rows are equal (5), or
 // else these two are different rows with one hash (13).
-fn clash_cause(file: &[u8], places: &[u32], n: usize, shared: usize, area: &mut [u32]) -> Cause
-    requires placed { Placed file.now places.now n }
+fn clash_cause(rows: &Rows<'_>, shared: usize, area: &mut [u32]) -> Cause
     requires in_bounds { 16384 ≤ length area.old }
-    requires shared_lt_n { shared < n }
-    ensures { ClashTold file.now places.now n shared area.old area.new result }
+    requires shared_lt_n { shared < rows.now.n }
+    ensures { let r = rows.now in ClashTold r.file.now r.places.now r.n shared area.old area.new result }
 {
-    let equal = clashes::first_equal(file, places, n, area);
-    if equal < n {
+    let equal = clashes::first_equal(rows, area);
+    if equal < rows.n {
         return Cause::EqualRow(equal as u32);
     }
     Cause::SameHash(shared as u32)
 }
 
-// Fills the tables and the search area of a file that passes the checks, or refuses it by 5, 13 or 6.
+// Fills the tables and the search area of a file that passes the checks, or refuses it by 5, 13 or 6. Rows are looked
+// at byte by byte only where two have one hash, so that an accepted file needs no such look.
 fn fill_tables(
     file: &[u8],
     factor: u64,
@@ -121,20 +78,23 @@ fn fill_tables(
     prefixes: &mut [u32],
     area: &mut [u32],
     n: usize,
-) -> BuildAnswer
+) -> Result<usize, Cause>
     requires { Buildable factor (tables file.now places.old lefts.old rights.old prefixes.old area.old) n }
     ensures { TablesFilled factor n (lent_to_fill file places lefts rights prefixes area)
         (left file places lefts rights prefixes area) result }
 {
-    let shared = fill_rows(file, factor, places, prefixes, area, n);
+    phrase_file::fill_places(file, places);
+    let rows = Rows { file, places, n };
+    let shared = clashes::first_shared(&rows, factor, area);
     if shared < n {
-        return BuildAnswer::Refused(clash_cause(file, places, n, shared, area));
+        return Err(clash_cause(&rows, shared, area));
     }
-    let without = parts::fill_parts(file, places, lefts, rights, prefixes, area, n);
+    search_fill::fill(&rows, prefixes, area);
+    let without = parts::fill_parts(&rows, lefts, rights, prefixes, area);
     if without < n {
-        return BuildAnswer::Refused(Cause::NoParts(without as u32));
+        return Err(Cause::NoParts(without as u32));
     }
-    BuildAnswer::Rows(n)
+    Ok(n)
 }
 
 // The same, and a refusal leaves NONE in the tables and in the search area.
@@ -147,17 +107,16 @@ fn build_rows(
     prefixes: &mut [u32],
     area: &mut [u32],
     n: usize,
-) -> BuildAnswer
+) -> Result<usize, Cause>
     requires { Buildable factor (tables file.now places.old lefts.old rights.old prefixes.old area.old) n }
     ensures { BuildIs factor (lent_to_fill file places lefts rights prefixes area)
         (left file places lefts rights prefixes area) result }
 {
-    let answer = fill_tables(file, factor, places, lefts, rights, prefixes, area, n);
-    match answer {
-        BuildAnswer::Rows(count) => BuildAnswer::Rows(count),
-        BuildAnswer::Refused(cause) => {
+    match fill_tables(file, factor, places, lefts, rights, prefixes, area, n) {
+        Ok(count) => Ok(count),
+        Err(cause) => {
             clear_all(file, places, lefts, rights, prefixes, area, n);
-            BuildAnswer::Refused(cause)
+            Err(cause)
         }
     }
 }
@@ -171,21 +130,24 @@ pub fn from_dictionary(
     rights: &mut [u32],
     prefixes: &mut [u32],
     area: &mut [u32],
-) -> BuildAnswer
+) -> Result<usize, Cause>
     ensures { BuildIs factor (lent_to_fill file places lefts rights prefixes area)
         (left file places lefts rights prefixes area) result }
 {
     if factor == 0 {
-        return BuildAnswer::Refused(Cause::FactorZero);
+        return Err(Cause::FactorZero);
     }
-    let checked = phrase_file::check_file(file);
-    match checked {
-        BuildAnswer::Refused(cause) => BuildAnswer::Refused(cause),
-        BuildAnswer::Rows(n) => {
-            if are_short(file, places, lefts, rights, prefixes, area, n) {
-                return BuildAnswer::Refused(Cause::TooShort);
-            }
-            build_rows(file, factor, places, lefts, rights, prefixes, area, n)
-        }
+    let n = phrase_file::check_file(file)?;
+    let tables = Tables {
+        file,
+        places,
+        lefts,
+        rights,
+        prefixes,
+        area,
+    };
+    if are_short(&tables, n) {
+        return Err(Cause::TooShort);
     }
+    build_rows(file, factor, places, lefts, rights, prefixes, area, n)
 }

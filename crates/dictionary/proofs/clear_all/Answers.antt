@@ -2,7 +2,6 @@
 use native.Mathlib.Omega.{arith}
 use Rattle.dictionary.proofs.Sizes.{large}
 use Rattle.dictionary.proofs.Clearing.{all-cleared}
-use borrow.Author.Rules.{rules}
 use Rattle.dictionary.proofs.clear_all.Goals as goal
 
 pub clear-requires : goal.clear-requires

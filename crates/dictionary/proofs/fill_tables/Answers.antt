@@ -1,29 +1,36 @@
--- Rests on what the rows and then the parts leave, and on the answers for them. Assumes nothing.
+-- Rests on what each step leaves for the next, and on the answers for it. Assumes nothing.
 use native.Mathlib.Omega.{arith}
-use Rattle.dictionary.proofs.Filling.{few, rows_fit, rows-placed, clash-room, clash-filled, parts-fit, parts-filled, rows-filled}
-use borrow.Author.Rules.{rules}
+use Rattle.dictionary.proofs.Filling.{few, rows_fit, places_fit, placed, shared_fills, area_room, search_fills, clash-filled, parts-fit, parts-filled, rows-filled}
 use Rattle.dictionary.proofs.fill_tables.Goals as goal
 
-pub fill_rows-shared-requires : goal.fill_rows-shared-requires
-fill_rows-shared-requires c = rows_fit _ _ _ c.requires
+pub fill_places-requires : goal.fill_places-requires
+fill_places-requires c = places_fit _ _ _ _ 0 _ (rows_fit _ _ _ c.requires)
+
+pub invariant_of-rows : goal.invariant_of-rows
+invariant_of-rows c = record { placed = placed _ _ _ _ 0 _ (rows_fit _ _ _ c.requires) _ c.fill_places.ensures }
+
+pub first_shared-shared-requires : goal.first_shared-shared-requires
+first_shared-shared-requires c = (rows_fit _ _ _ c.requires).area_room
 
 pub clash_cause-requires : goal.clash_cause-requires
-clash_cause-requires c =
-    let A = c.requires in
-    let R = c.fill_rows-shared.ensures in
-    record { placed = rows-placed _ _ _ A _ _ _ _ R; in_bounds = clash-room _ _ _ A _ _ _ _ R; shared_lt_n = omega arith }
+clash_cause-requires c = record { in_bounds = area_room _ _ _ _ _ _ (rows_fit _ _ _ c.requires) _ c.fill_places.ensures _ _ c.first_shared-shared.ensures; shared_lt_n = c.if-shared-n.true }
 
 pub returns-then-shared-n : goal.returns-then-shared-n
-returns-then-shared-n c = clash-filled _ _ _ c.requires _ _ _ _ c.fill_rows-shared.ensures _ _ c.clash_cause.ensures c.if-shared-n.true
+returns-then-shared-n c = clash-filled _ _ _ c.requires _ _ _ _ (shared_fills _ _ _ _ _ _ (rows_fit _ _ _ c.requires) _ c.fill_places.ensures _ _ c.first_shared-shared.ensures c.if-shared-n.true) _ _ c.clash_cause.ensures c.if-shared-n.true
+
+pub fill-requires : goal.fill-requires
+fill-requires c = record { n_in_bounds = ((rows_fit _ _ _ c.requires).prefixes_room, area_room _ _ _ _ _ _ (rows_fit _ _ _ c.requires) _ c.fill_places.ensures _ _ c.first_shared-shared.ensures) }
 
 pub fill_parts-without-requires : goal.fill_parts-without-requires
-fill_parts-without-requires c = parts-fit _ _ _ c.requires _ _ _ _ c.fill_rows-shared.ensures (omega arith)
+fill_parts-without-requires c = parts-fit _ _ _ c.requires _ _ _ _ (search_fills _ _ _ _ _ _ (rows_fit _ _ _ c.requires) _ c.fill_places.ensures _ _ c.first_shared-shared.ensures _ _ c.fill.ensures) c.if-shared-n.false
 
 pub overflow_cast-result : goal.overflow_cast-result
 overflow_cast-result c = omega (arith, few _ _ _ c.requires)
 
 pub returns-then-without-n : goal.returns-then-without-n
-returns-then-without-n c = parts-filled _ _ _ c.requires _ _ _ _ c.fill_rows-shared.ensures (omega arith) _ _ _ _ c.fill_parts-without.ensures c.if-without-n.true
+returns-then-without-n c =
+    parts-filled _ _ _ c.requires _ _ _ _ (search_fills _ _ _ _ _ _ (rows_fit _ _ _ c.requires) _ c.fill_places.ensures _ _ c.first_shared-shared.ensures _ _ c.fill.ensures) c.if-shared-n.false _ _ _ _ c.fill_parts-without.ensures c.if-without-n.true
 
 pub returns : goal.returns
-returns c = rows-filled _ _ _ c.requires _ _ _ _ c.fill_rows-shared.ensures (omega arith) _ _ _ _ c.fill_parts-without.ensures c.if-without-n.false
+returns c =
+    rows-filled _ _ _ c.requires _ _ _ _ (search_fills _ _ _ _ _ _ (rows_fit _ _ _ c.requires) _ c.fill_places.ensures _ _ c.first_shared-shared.ensures _ _ c.fill.ensures) c.if-shared-n.false _ _ _ _ c.fill_parts-without.ensures c.if-without-n.false

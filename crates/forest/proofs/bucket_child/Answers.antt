@@ -10,19 +10,8 @@ returns-then-rows-row_of c =
     let s = c in
     rw c.no_match.ensures (none-at _ _ _ _ _ c.args.text.now c.args.at c.args.first _ _ refl c.requires.hints_in_bounds.1.1 (omega (arith, c.row_of.ensures.is, c.if-rows-row_of.true)))
 
-pub overflow_add-result : goal.overflow_add-result
-overflow_add-result c = let s = c in omega (arith, c.requires.at_bound, c.requires.hints_in_bounds.1.0)
-
 pub returns-then-is_one_longer : goal.returns-then-is_one_longer
 returns-then-is_one_longer c =
     let s = c in
     one_at _ _ _ _ _ c.args.text.now c.args.at c.args.first _ (c.args.len + 1) refl c.requires.hints_in_bounds.1.1 (c.is_one_longer.ensures c.if-is_one_longer.true)
     (omega (arith, c.row_of.ensures.is, c.if-rows-row_of.false)) c.args.rows.now.placed.few (omega (arith, c.type_inv.text c.args.at)) c.requires.hints_in_bounds.1.0 refl
-
-pub listed_child-requires : goal.listed_child-requires
-listed_child-requires c =
-    let s = c in
-    record { hints_in_bounds = c.requires.hints_in_bounds; at_bound = (omega (arith, c.type_inv.text c.args.at), c.requires.at_bound) }
-
-pub returns : goal.returns
-returns c = c.listed_child.ensures

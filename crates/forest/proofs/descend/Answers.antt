@@ -8,7 +8,7 @@ use borrow.Author.Tests.{not-true}
 use Rattle.placed_rows.specs.Reading.{rows_of}
 use Rattle.forest.specs.Words.{row_of}
 use Rattle.forest.proofs.Places.{rest-later, one_at, none-at, unmarked-at}
-use Rattle.forest.proofs.Descending.{Descending, Turn, turn, descend_start, descend_stop, descend_end}
+use Rattle.forest.proofs.Descending.{Descending, Turn, turn, descend_stop, descend_end}
 use Rattle.forest.proofs.descend.Goals as goal
 
 -- no more bytes are used than the text has from the place on
@@ -20,29 +20,12 @@ here : {R : ℕ → List ℕ} {n : ℕ} {area : List ℕ} {from len : ℕ} {text
     → Descending R n area from len text best size k → Descending R n area from len text best size' k'
 here e f D = rw (sym e, sym f) D
 
-pub loop-end-init : goal.loop-end-init
-loop-end-init c =
-    let s = c in
-    let a = c.args in
-    let z : a.at - a.at ≡ 0 = omega arith in
-    let y : a.len + 0 ≡ a.len = omega arith in
-    (omega arith, (omega (arith, c.requires.from_lt_n.1.1), (c.requires.from_lt_n.0, rw (z, y) (descend_start _ _ _ _ _ _))))
-
-pub overflow_sub-size : goal.overflow_sub-size
-overflow_sub-size c = omega (arith, c.loop-end.invariant.0)
-
-pub overflow_add-size : goal.overflow_add-size
-overflow_add-size c = omega (arith, c.loop-end.invariant.0, c.loop-end-test.true, c.requires.at_bound)
-
 pub returns-then-not-may_have_child : goal.returns-then-not-may_have_child
 returns-then-not-may_have_child c =
     let l = c.loop-end in
     let a = c.args in
     descend_stop _ _ _ _ _ _ _ _ _ _ _ _ (inside _ _ _ l.invariant.0 l.invariant.1.0) l.invariant.1.1.1
     (unmarked-at _ _ _ _ _ a.text.now l.end 0 (sym c.may_have_child.ensures ∙ not-true _ c.if-not-may_have_child.true-raw)) (rest-later a.text.now a.at l.end l.invariant.0) refl
-
-pub bucket-requires : goal.bucket-requires
-bucket-requires c = omega (arith, c.loop-end.invariant.1.1.0, c.args.rows.now.placed.few)
 
 pub returns-then-rows-row_of : goal.returns-then-rows-row_of
 returns-then-rows-row_of c =
@@ -69,44 +52,11 @@ loop-end-preserved-then-is_one_longer c =
     let y : a.len + (l.end - a.at) + 1 ≡ a.len + (l.end + 1 - a.at) = omega (arith, l.invariant.0) in
     (omega (arith, l.invariant.0), (omega (arith, c.loop-end-test.true), (q, here y z t.gone)))
 
-pub child-m-requires : goal.child-m-requires
-child-m-requires c =
-    let s = c in
-    let l = c.loop-end in
-    record { p_lt_n = (l.invariant.1.1.0, (c.requires.from_lt_n.1.0, l.invariant.1.0)); at_bound = omega (arith, c.requires.at_bound, l.invariant.0, l.invariant.1.0) }
-
 pub returns-then-r : goal.returns-then-r
 returns-then-r c =
     let a = c.args in
     let l = c.loop-end in
     descend_stop _ _ _ _ _ _ _ _ _ _ _ _ (inside _ _ _ l.invariant.0 l.invariant.1.0) l.invariant.1.1.1 c.child-m.ensures (rest-later a.text.now a.at l.end l.invariant.0) c.if-r.true
-
-pub overflow_sub-end : goal.overflow_sub-end
-overflow_sub-end c =
-    let gone : (let a = c.args in let l = c.loop-end in let r = c.child-m.result in
-    Turn (rows_of a.rows.now) a.rows.now.n a.area.now a.from a.len (drop a.at a.text.now) l.best (a.len + (l.end - a.at)) (l.end - a.at) r.row r.len) = let a = c.args in
-    let l = c.loop-end in
-    turn _ _ _ _ _ _ _ _ _ _ _ _ (inside _ _ _ l.invariant.0 l.invariant.1.0) l.invariant.1.1.1 c.child-m.ensures (rest-later a.text.now a.at l.end l.invariant.0) c.if-r.false in
-    let t = gone in omega (arith, t.step.longer)
-
-pub overflow_add-end-in-loop-end : goal.overflow_add-end-in-loop-end
-overflow_add-end-in-loop-end c =
-    let gone : (let a = c.args in let l = c.loop-end in let r = c.child-m.result in
-    Turn (rows_of a.rows.now) a.rows.now.n a.area.now a.from a.len (drop a.at a.text.now) l.best (a.len + (l.end - a.at)) (l.end - a.at) r.row r.len) = let a = c.args in
-    let l = c.loop-end in
-    turn _ _ _ _ _ _ _ _ _ _ _ _ (inside _ _ _ l.invariant.0 l.invariant.1.0) l.invariant.1.1.1 c.child-m.ensures (rest-later a.text.now a.at l.end l.invariant.0) c.if-r.false in
-    let t = gone in
-    let s = c in
-    let l = c.loop-end in
-    omega (arith, t.step.fits, t.step.longer, length-drop c.args.at c.args.text.now, l.invariant.0, l.invariant.1.0, c.well_formed.1.1.1.1.0.0)
-
-pub loop-end-smaller : goal.loop-end-smaller
-loop-end-smaller c =
-    let gone : (let a = c.args in let l = c.loop-end in let r = c.child-m.result in
-    Turn (rows_of a.rows.now) a.rows.now.n a.area.now a.from a.len (drop a.at a.text.now) l.best (a.len + (l.end - a.at)) (l.end - a.at) r.row r.len) = let a = c.args in
-    let l = c.loop-end in
-    turn _ _ _ _ _ _ _ _ _ _ _ _ (inside _ _ _ l.invariant.0 l.invariant.1.0) l.invariant.1.1.1 c.child-m.ensures (rest-later a.text.now a.at l.end l.invariant.0) c.if-r.false in
-    let t = gone in omega (arith, t.step.longer, t.step.fits, c.loop-end-test.true)
 
 pub loop-end-preserved : goal.loop-end-preserved
 loop-end-preserved c =
@@ -121,12 +71,6 @@ loop-end-preserved c =
     let z : l.end - a.at + (m - (a.len + (l.end - a.at))) ≡ l.end + (m - (a.len + (l.end - a.at))) - a.at = omega (arith, l.invariant.0) in
     let y : m ≡ a.len + (l.end + (m - (a.len + (l.end - a.at))) - a.at) = omega (arith, l.invariant.0, t.step.longer) in
     (omega (arith, l.invariant.0), (omega (arith, t.step.longer, t.step.fits, length-drop a.at a.text.now, l.invariant.0, l.invariant.1.0), (t.step.below, here y z t.gone)))
-
-pub overflow_sub-result : goal.overflow_sub-result
-overflow_sub-result c = omega (arith, c.loop-end.invariant.0)
-
-pub overflow_add-result : goal.overflow_add-result
-overflow_add-result c = omega (arith, c.loop-end.invariant.0, c.loop-end.invariant.1.0, c.requires.at_bound)
 
 pub returns : goal.returns
 returns c =

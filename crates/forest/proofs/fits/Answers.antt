@@ -1,7 +1,7 @@
 -- Rests on the laws of the test, one for each way in which it ends. Assumes nothing.
 use mathlib.Core.Path.{sym, ap, ◌∙◌}
 use mathlib.Core.List.{List}
-use Prim.Native.Nat.{ℕ, ◌+◌, ◌-◌, ◌%◌}
+use Prim.Native.Nat.{ℕ, ◌-◌, ◌%◌}
 use native.Mathlib.Omega.{arith}
 use lib.ListN.{length, length-drop, take, drop}
 use lib.Seq.{get_or-drop, take_all}
@@ -10,9 +10,6 @@ use Rattle.placed_rows.specs.Texts.{begins}
 use Rattle.forest.proofs.Fitting.{fits-other, fits-long, fits_one, fits_unlike_second, fits-unlike, fits-compared}
 use Rattle.forest.proofs.Places.{first-at, rest_at}
 use Rattle.forest.proofs.fits.Goals as goal
-
-pub overflow_cast-text : goal.overflow_cast-text
-overflow_cast-text c = omega (arith, c.type_inv.text c.args.at)
 
 pub returns-then-w-text : goal.returns-then-w-text
 returns-then-w-text c = let s = c in fits-other _ _ _ _ _ _ c.args.rows.now.placed.few (λ e. c.if-w-text.true (e ∙ first-at c.args.text.now c.args.at))
@@ -29,20 +26,11 @@ returns-then-more-eq1 c =
     let at = c.args.at in
     fits_one _ _ _ _ _ _ c.args.rows.now.placed.few (c.if-w-text.false ∙ sym (first-at text at)) (omega (arith, c.more_of-more.ensures.is, c.if-more-eq1.true)) (omega (arith, length-drop at text, c.requires.w_bound.1))
 
-pub bounds-text-at-2 : goal.bounds-text-at-2
-bounds-text-at-2 c = omega (arith, c.if-more-eq1.false, c.if-text-at.false, c.more_of-more.ensures.is)
-
-pub overflow_cast-text-2 : goal.overflow_cast-text-2
-overflow_cast-text-2 c = omega (arith, c.type_inv.text (c.args.at + 1))
-
 pub returns-then-w-text-2 : goal.returns-then-w-text-2
 returns-then-w-text-2 c =
     let s = c in
     fits_unlike_second _ _ _ _ _ _ c.args.rows.now.placed.few (λ e. c.if-w-text-2.true (e ∙ ap (λ (b : ℕ). b % 32) (get_or-drop c.args.at c.args.text.now 1 0)))
     (omega (arith, c.more_of-more.ensures.is, c.if-more-eq1.false))
-
-pub bytes_of-bytes-requires : goal.bytes_of-bytes-requires
-bytes_of-bytes-requires c = let s = c in omega (arith, c.row_of.ensures.is, c.requires.w_bound.0)
 
 pub returns-then-bytes-len : goal.returns-then-bytes-len
 returns-then-bytes-len c =

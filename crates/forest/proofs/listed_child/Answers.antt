@@ -1,8 +1,8 @@
 -- The loop keeps that a child that was not met yet is among the words that are left of the bucket. Assumes nothing.
-use mathlib.Core.Path.{◌≡◌, refl, sym, ap}
+use mathlib.Core.Path.{◌≡◌, sym, ap}
 use mathlib.Core.Bool.{true}
 use Prim.Native.Nat.{ℕ, ◌+◌, ◌-◌}
-use lib.ListN.{length-drop, drop}
+use lib.ListN.{drop}
 use native.Mathlib.Omega.{arith}
 use Rattle.placed_rows.specs.Reading.{rows_of}
 use Rattle.forest.specs.Words.{bucket_of}
@@ -22,11 +22,6 @@ pub returns-then-rows-i : goal.returns-then-rows-i
 returns-then-rows-i c =
     let l = c.loop-step in
     rw c.no_match.ensures (search_over _ _ _ _ _ _ l.w _ _ (walk_out _ _ _ l.w (omega (arith, c.row_of-i.ensures.is, c.if-rows-i.true))) l.invariant)
-
-pub overflow_add-result : goal.overflow_add-result
-overflow_add-result c =
-    let fitting : (let a = c.args in let l = c.loop-step in Fits (rows_of a.rows.now) a.rows.now.n a.p a.len (drop a.at a.text.now) l.w true) = rw c.if-fits.true at c.fits.ensures in
-    omega (arith, (fitting).room refl, c.more_of.ensures.is, c.requires.at_bound.1, length-drop c.args.at c.args.text.now)
 
 pub returns-then-fits : goal.returns-then-fits
 returns-then-fits c =

@@ -13,21 +13,9 @@ beyond-end [] i h = refl
 beyond-end (x ∷ t) zero h = absurd (omega arith)
 beyond-end (x ∷ t) (suc i) h = beyond-end t i (omega arith)
 
-pub overflow_cast-next : goal.overflow_cast-next
-overflow_cast-next c = omega (arith, c.type_inv.bytes c.args.k)
-
 pub returns-then-bytes-k-eq1 : goal.returns-then-bytes-k-eq1
 unfolding tag_at
 returns-then-bytes-k-eq1 c = let a = c.args in omega (arith, beyond-end a.bytes.now (a.k + 1) (omega (arith, c.if-bytes-k-eq1.true)))
-
-pub bounds-bytes-k-2 : goal.bounds-bytes-k-2
-bounds-bytes-k-2 c = omega (arith, c.if-bytes-k-eq1.false, c.requires)
-
-pub overflow_cast-result : goal.overflow_cast-result
-overflow_cast-result c = omega (arith, c.type_inv.bytes (c.args.k + 1))
-
-pub overflow_add-result-2 : goal.overflow_add-result-2
-overflow_add-result-2 c = omega (arith, c.type_inv.bytes c.args.k)
 
 pub returns : goal.returns
 unfolding tag_at

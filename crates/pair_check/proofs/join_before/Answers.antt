@@ -10,6 +10,3 @@ is_marked-requires c = (omega arith, key-inside _ _ _ _ c.pair_key.ensures c.req
 
 pub returns-then-not-is_marked : goal.returns-then-not-is_marked
 returns-then-not-is_marked c = joins_unmarked _ _ _ _ _ _ c.requires.below _ _ c.pair_key.ensures c.is_marked.ensures (not-true _ c.if-not-is_marked.true-raw)
-
-pub returns : goal.returns
-returns c = c.look_up.ensures

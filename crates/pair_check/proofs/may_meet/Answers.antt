@@ -2,18 +2,8 @@
 use mathlib.Core.Path.{refl, ap, ap₂, ◌∙◌}
 use Rattle.marks.specs.Marks.{marked}
 use Rattle.pair_check.specs.Pair.{seam_key}
-use native.Mathlib.Omega.{arith}
-use Rattle.pair_check.proofs.Seams.{read-filled, first_read, last-read}
+use Rattle.pair_check.proofs.Seams.{first_read, last-read}
 use Rattle.pair_check.proofs.may_meet.Goals as goal
-
-pub overflow_sub-before : goal.overflow_sub-before
-overflow_sub-before c = read-filled _ _ _ c.requires.places_ready _ _ c.requires.left_below refl _ c.bytes_of-before.ensures
-
-pub bounds-before-before : goal.bounds-before-before
-bounds-before-before c = let z = read-filled _ _ _ c.requires.places_ready _ _ c.requires.left_below refl _ c.bytes_of-before.ensures in omega arith
-
-pub bounds-after-0 : goal.bounds-after-0
-bounds-after-0 c = let z = read-filled _ _ _ c.requires.places_ready _ _ c.requires.right_below refl _ c.bytes_of-after.ensures in omega arith
 
 pub returns : goal.returns
 returns c = c.may_join.ensures ∙ ap (marked _ 14848) (ap₂ seam_key (last-read _ _ _ c.requires.places_ready _ _ c.requires.left_below refl _ c.bytes_of-before.ensures) (first_read _ _ _ c.requires.places_ready _ _ c.requires.right_below refl _ c.bytes_of-after.ensures))

@@ -4,11 +4,8 @@ use Prim.Native.Nat.{ℕ, ◌+◌}
 use native.Mathlib.Omega.{arith}
 use lib.ListN.{length-drop, get_or, drop}
 use lib.Seq.{get_or-drop}
-use Rattle.search_area.proofs.Stepping.{first-none, first_byte_lem}
+use Rattle.search_area.proofs.Stepping.{first_byte_lem}
 use Rattle.search_area.proofs.first_match.Goals as goal
-
-pub returns-then-text-at : goal.returns-then-text-at
-returns-then-text-at c = let a = c.args in (first-none _ _ _ _ _ 0 (omega (arith, c.if-text-at.true, length-drop a.at a.text.now)), omega arith)
 
 pub returns : goal.returns
 returns c =

@@ -1,12 +1,7 @@
 -- Rests on the descent from row x in the rows' part along the bytes of row y. Assumes nothing.
-use native.Mathlib.Omega.{arith}
-use borrow.Author.Rules.{rules}
 use Rattle.placed_rows.specs.Reading.{rows_of}
 use Rattle.search_area.proofs.Looking.{join-hit, join_miss}
 use Rattle.search_area.proofs.join.Goals as goal
-
-pub descend-m-requires : goal.descend-m-requires
-descend-m-requires c = let s = c in record { from_lt_n = (c.requires.area_size_in_bounds.1.0, (omega (arith, c.requires.area_size_in_bounds.0), omega arith)); at_bound = search rules }
 
 pub returns-then-l-a : goal.returns-then-l-a
 returns-then-l-a c =

@@ -8,12 +8,6 @@ use Rattle.search_fill.proofs.add_length.Goals.{then-length_of-len, else-length_
 pub loop-c-init : goal.loop-c-init
 loop-c-init c = rows_start _ _ _ _ _ _ (omega arith)
 
-pub add_row-requires : goal.add_row-requires
-add_row-requires c =
-    let s = c in
-    let l = c.loop-c in
-    record { area_size_in_bounds = (omega (arith, l.invariant.area_length, c.requires.area_size_in_bounds.0), (omega arith, omega (arith, c.length_of.ensures.is, c.if-length_of-len.true, c.requires.area_size_in_bounds.1))) }
-
 pub loop-c-preserved : goal.loop-c-preserved
 loop-c-preserved c =
     let s = c in
@@ -24,9 +18,6 @@ loop-c-preserved c =
       | then-length_of-len w ↦ rw w.area-is (rows-add _ _ _ N l.area c.args.len l.c _ (omega arith) (sym e ∙ w.if-length_of-len.true) w.add_row.ensures)
       | else-length_of-len w ↦ rw w.area-is (rows_skip _ _ _ N l.area c.args.len l.c (omega arith) (λ z. w.if-length_of-len.false (e ∙ z)))
     ])
-
-pub shape_of-area : goal.shape_of-area
-shape_of-area c = c.loop-c.invariant.area_length
 
 pub returns : goal.returns
 returns c =

@@ -4,17 +4,11 @@ use mathlib.Core.List.{List}
 use Prim.Native.Nat.{ℕ, ◌-◌}
 use native.Mathlib.Omega.{arith}
 use lib.ListN.{length, take}
-use lib.Seq.{length-take-le}
 use Rattle.search_fill.proofs.Shortening.{prefix-empty, prefix-longest}
 use Rattle.search_fill.proofs.prefix_of.Goals as goal
 
 pub returns-then-bytes-eq0 : goal.returns-then-bytes-eq0
 returns-then-bytes-eq0 c = prefix-empty _ _ _ _ _ c.requires.area_size_in_bounds.1 _ (sym (ap length c.bytes_of-bytes.ensures) ∙ c.if-bytes-eq0.true)
-
-pub slice_bounds-next_match-end : goal.slice_bounds-next_match-end
-slice_bounds-next_match-end c =
-    let bytes = c.bytes_of-bytes.result.now in
-    sym (length-take-le (length bytes - 1) bytes (omega arith))
 
 pub returns : goal.returns
 returns c =

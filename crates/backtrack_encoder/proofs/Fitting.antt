@@ -42,14 +42,14 @@ pair-ready P n text e work c T S R h some = record {
   right_below = h;
 }
 
--- row c, as an index w, has l bytes as they are read
-module _ (P : PairTables) (n : ℕ) (text : List ℕ) (e : BacktrackEncoder) (work alive : List ℕ) (c w l : ℕ)
+-- row c has l bytes as they are read
+module _ (P : PairTables) (n : ℕ) (text : List ℕ) (e : BacktrackEncoder) (work alive : List ℕ) (c l : ℕ)
     (T : RowsReady P.file P.places P.area n text work) (R : EncoderReady P.file n text e work) (h : c < n)
-    (W : Small c 4294967296 w) (S : Small (length (row P.file P.places n w)) 256 l) where
+    (S : Small (length (row P.file P.places n c)) 256 l) where
   open P use {file, places}
 
   length-read : l ≡ length ((dictionary_of file).bytes c)
-  length-read = read_length file places n T.places_ready c w l h W S
+  length-read = read_length file places n T.places_ready c l h S
 
   -- its end behind a stack
   end-place : (s : State) → Shows (dictionary_of file) text e work alive s → e.pos + l ≡ place (dictionary_of file) (c ∷ s.stack)

@@ -44,12 +44,12 @@ move_start file places area n text r l P short b m = record {
   };
 }
 
--- a row c, as an index w, of l bytes is added
-module _ (file places area : List ℕ) (n : ℕ) (text : List ℕ) (e : BacktrackEncoder) (work : List ℕ) (c w l : ℕ)
+-- a row c of l bytes is added
+module _ (file places area : List ℕ) (n : ℕ) (text : List ℕ) (e : BacktrackEncoder) (work : List ℕ) (c l : ℕ)
     (T : RowsReady file places area n text work) (R : EncoderReady file n text e work) (h : c < n) (i : EndsIn file text e c)
-    (W : Small c 4294967296 w) (S : Small (length (row file places n w)) 256 l) where
+    (S : Small (length (row file places n c)) 256 l) where
   length-read : l ≡ length ((dictionary_of file).bytes c)
-  length-read = read_length file places n T.places_ready c w l h W S
+  length-read = read_length file places n T.places_ready c l h S
 
   add-room : e.count < length text
   add-room = count_room file places n T.places_ready text e work R c i
@@ -116,8 +116,8 @@ module _ (file places : List ℕ) (n : ℕ) (text : List ℕ) (e : BacktrackEnco
         rw k (record { stack = sym (stack-nil work); next = sym (try_none (dictionary_of file)); bits = rw k at a });
   }
 
-  -- the last code x, as an index w, of l bytes is taken back
-  module _ (some : e.count ≡ 0 → ⊥) (w l : ℕ) (W : Small (get_or work (e.count - 1) 0) 4294967296 w) (S : Small (length (row file places n w)) 256 l) where
+  -- the last code x of l bytes is taken back
+  module _ (some : e.count ≡ 0 → ⊥) (l : ℕ) (S : Small (length (row file places n (get_or work (e.count - 1) 0))) 256 l) where
     abbrev x : ℕ
     x = get_or work (e.count - 1) 0
 
@@ -128,7 +128,7 @@ module _ (file places : List ℕ) (n : ℕ) (text : List ℕ) (e : BacktrackEnco
     last = stack-last work e.count some
 
     length_last : l ≡ length ((dictionary_of file).bytes x)
-    length_last = read_length file places n P x w l below W S
+    length_last = read_length file places n P x l below S
 
     whole : e.pos ≡ place (dictionary_of file) (stack_of work (e.count - 1)) + l
     whole = R.reached ∙ ap (place (dictionary_of file)) last ∙ ap (λ (y : ℕ). place (dictionary_of file) (stack_of work (e.count - 1)) + y) (sym length_last)

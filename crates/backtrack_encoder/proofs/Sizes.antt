@@ -33,9 +33,9 @@ module _ (file places : List ℕ) (n : ℕ) (P : PlacesReady file places n) wher
   size_is : (c : ℕ) → c < n → length (row file places n c) ≡ length ((dictionary_of file).bytes c)
   size_is c h = ap length (P.rows_are c h ∙ sym (bytes-row c h))
 
-  -- row c, as an index w, has l bytes as they are read
-  pub read_length : (c w l : ℕ) → c < n → Small c 4294967296 w → Small (length (row file places n w)) 256 l → l ≡ length ((dictionary_of file).bytes c)
-  read_length c w l h i s = s.is ∙ ap (λ (x : ℕ). length (row file places n x)) i.is ∙ size_is c h
+  -- row c has l bytes as they are read
+  pub read_length : (c l : ℕ) → c < n → Small (length (row file places n c)) 256 l → l ≡ length ((dictionary_of file).bytes c)
+  read_length c l h s = s.is ∙ size_is c h
 
   pub filled_row : (c : ℕ) → 0 < length ((dictionary_of file).bytes c)
   filled_row c = go (dec_lt c n)

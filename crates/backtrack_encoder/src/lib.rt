@@ -5,19 +5,21 @@
 
 ghost use Rattle.std.specs.Prelude.{◌≡◌, ◌<◌, ◌≤◌, length};
 ghost use Rattle.marks.specs.Layout.{area_size};
-ghost use Rattle.tables.specs.Tables.{given, lent, pair_lent, before, after};
+ghost use Rattle.tables.specs.Tables.{given, pair_given};
 ghost use Rattle.tables.specs.Ready.{PlacesReady, PartsReady};
 ghost use Rattle.backtrack_encoder.specs.Encoder.{TextReady, RowsReady, EncoderReady};
 ghost use Rattle.backtrack_encoder.specs.Steps.{EndsIn, FitsIs, FirstFitIs, Started, Added, TakenBack, Stepped};
 ghost use Rattle.backtrack_encoder.specs.Answers.{OutputReady, Backtracked, EncodedInto, CountIs};
 
-use bitfield::{all_set, bit_is_set, clear_bit};
+use bitfield::BitField;
 use pair_check::is_valid_pair;
-use placed_rows::{NONE, length_of, wide};
+use placed_rows::{NONE, Rows};
 use search_area::next_match;
+use tables::RowTables;
 
 // The number of codes so far, the place that they reach, and the next row to try, NONE where nothing is left to try.
-// The codes stand at the front of a lent work buffer. The places that are not dead are the set bits of 65 words.
+// The codes stand at the front of a lent work buffer. The places that are not dead are the set bits of a bit set.
+// Kept: Shows (a definition) needs it: next is a row or NONE, as the lent prefixes and Match name what is tried next.
 #[derive(Clone, Copy)]
 pub struct BacktrackEncoder {
     pub count: usize,
@@ -27,29 +29,26 @@ pub struct BacktrackEncoder {
 
 // Whether a row passes with the last code, and its end is in the text and not dead.
 fn fits(
-    file: &[u8],
-    places: &[u32],
-    lefts: &[u32],
-    rights: &[u32],
-    area: &[u32],
-    n: usize,
+    tables: &RowTables<'_>,
     text: &[u8],
     encoder: BacktrackEncoder,
     work: &[u32],
-    alive: &[u64; 65],
+    alive: &BitField,
     token: u32,
 ) -> bool
-    requires rows_ready { RowsReady file.now places.now area.now n text.now work.now × PartsReady file.now
-        lefts.now rights.now n }
-    requires encoder_ready { EncoderReady file.now n text.now encoder work.now × (token < n) }
-    ensures { FitsIs (pair_lent file places lefts rights area) n text.now encoder work.now
-        alive.now token result }
+    requires rows_ready { let T = pair_given tables.now in
+        RowsReady T.file T.places T.area tables.now.rows.n text.now work.now
+        × PartsReady T.file T.lefts T.rights tables.now.rows.n }
+    requires encoder_ready { let r = tables.now.rows in
+        EncoderReady r.file.now r.n text.now encoder work.now × (token < r.n) }
+    ensures { FitsIs (pair_given tables.now) tables.now.rows.n text.now encoder work.now
+        alive.now.words token result }
 {
-    let end = encoder.pos + length_of(file, places, n, wide(token));
+    let end = encoder.pos + tables.rows.length_of(token as usize);
     if text.len() < end {
         return false;
     }
-    if !bit_is_set(alive, end) {
+    if !alive.is_set(end) {
         return false;
     }
     if encoder.count == 0 {
@@ -57,47 +56,39 @@ fn fits(
     }
     let at = encoder.count - 1;
     let last = work[at];
-    is_valid_pair(file, places, lefts, rights, area, n, n as u32, last, token)
+    is_valid_pair(tables, tables.rows.n as u32, last, token)
 }
 
 // The first that fits along the next row, its prefix, the prefix of that and so on, or NONE.
 fn first_fit(
-    file: &[u8],
-    places: &[u32],
-    lefts: &[u32],
-    rights: &[u32],
-    prefixes: &[u32],
-    area: &[u32],
-    n: usize,
+    tables: &RowTables<'_>,
     text: &[u8],
     encoder: BacktrackEncoder,
     work: &[u32],
-    alive: &[u64; 65],
+    alive: &BitField,
 ) -> u32
-    requires text_ready { TextReady (given file places lefts rights prefixes area) n text.now work.now }
-    requires encoder_ready { EncoderReady file.now n text.now encoder work.now }
-    ensures { FirstFitIs (lent file places lefts rights prefixes area)
-        n text.now encoder work.now alive.now result }
+    requires text_ready { TextReady (given tables.now) tables.now.rows.n text.now work.now }
+    requires encoder_ready { EncoderReady tables.now.rows.file.now tables.now.rows.n text.now encoder work.now }
+    ensures { FirstFitIs (given tables.now) tables.now.rows.n text.now encoder work.now
+        alive.now.words result }
 {
     let mut token = encoder.next;
     while token != NONE {
-        if fits(
-            file, places, lefts, rights, area, n, text, encoder, work, alive, token,
-        ) {
+        if fits(tables, text, encoder, work, alive, token) {
             return token;
         }
-        token = prefixes[token as usize];
+        token = tables.prefixes[token as usize];
     }
     NONE
 }
 
 // The encoder of a text before any step.
-pub fn start(file: &[u8], places: &[u32], area: &[u32], n: usize, text: &[u8]) -> BacktrackEncoder
-    requires { PlacesReady file.now places.now n × ((area_size ≤ length area.now) ×
-        (length text.now ≤ 4096)) }
-    ensures { Started file.now places.now area.now n text.now result }
+pub fn start(rows: &Rows<'_>, area: &[u32], text: &[u8]) -> BacktrackEncoder
+    requires { PlacesReady rows.now.file.now rows.now.places.now rows.now.n ×
+        ((area_size ≤ length area.now) × (length text.now ≤ 4096)) }
+    ensures { let r = rows.now in Started r.file.now r.places.now area.now r.n text.now result }
 {
-    let found = next_match(file, places, area, n, text, 0);
+    let found = next_match(rows, area, text, 0);
     BacktrackEncoder {
         count: 0,
         pos: 0,
@@ -107,26 +98,25 @@ pub fn start(file: &[u8], places: &[u32], area: &[u32], n: usize, text: &[u8]) -
 
 // Adds a row; the longest row behind it is the next to try.
 fn add(
-    file: &[u8],
-    places: &[u32],
+    rows: &Rows<'_>,
     area: &[u32],
-    n: usize,
     text: &[u8],
     encoder: BacktrackEncoder,
     token: u32,
     work: &mut [u32],
 ) -> BacktrackEncoder
-    requires rows_ready { RowsReady file.now places.now area.now n text.now work.old }
-    requires encoder_ready { EncoderReady file.now n text.now encoder work.old ×
-        ((token < n) × EndsIn file.now text.now encoder token) }
-    ensures { Added file.now places.now area.now n text.now
+    requires rows_ready { let r = rows.now in
+        RowsReady r.file.now r.places.now area.now r.n text.now work.old }
+    requires encoder_ready { let r = rows.now in EncoderReady r.file.now r.n text.now encoder work.old ×
+        ((token < r.n) × EndsIn r.file.now text.now encoder token) }
+    ensures { let r = rows.now in Added r.file.now r.places.now area.now r.n text.now
         encoder work.old token result work.new }
 {
     let at = encoder.count;
     work[at] = token;
     let count = at + 1;
-    let pos = encoder.pos + length_of(file, places, n, wide(token));
-    let found = next_match(file, places, area, n, text, pos);
+    let pos = encoder.pos + rows.length_of(token as usize);
+    let found = next_match(rows, area, text, pos);
     BacktrackEncoder {
         count,
         pos,
@@ -136,20 +126,19 @@ fn add(
 
 // Marks the place dead and takes back one code, which is the next to try.
 fn take_back(
-    file: &[u8],
-    places: &[u32],
-    n: usize,
+    rows: &Rows<'_>,
     text: &[u8],
     encoder: BacktrackEncoder,
     work: &[u32],
-    alive: &mut [u64; 65],
+    alive: &mut BitField,
 ) -> BacktrackEncoder
-    requires places_ready { PlacesReady file.now places.now n × (length text.now ≤ length work.now) }
-    requires encoder_ready { EncoderReady file.now n text.now encoder work.now }
-    ensures { TakenBack file.now n text.now encoder work.now
-        alive.old result alive.new }
+    requires places_ready { PlacesReady rows.now.file.now rows.now.places.now rows.now.n ×
+        (length text.now ≤ length work.now) }
+    requires encoder_ready { EncoderReady rows.now.file.now rows.now.n text.now encoder work.now }
+    ensures { TakenBack rows.now.file.now rows.now.n text.now encoder work.now
+        alive.old.words result alive.new.words }
 {
-    clear_bit(alive, encoder.pos);
+    alive.clear(encoder.pos);
     if encoder.count == 0 {
         return BacktrackEncoder {
             count: 0,
@@ -159,7 +148,7 @@ fn take_back(
     }
     let count = encoder.count - 1;
     let last = work[count];
-    let pos = encoder.pos - length_of(file, places, n, wide(last));
+    let pos = encoder.pos - rows.length_of(last as usize);
     BacktrackEncoder {
         count,
         pos,
@@ -169,101 +158,63 @@ fn take_back(
 
 // A step adds or takes back one code. Where nothing is left to try it changes nothing.
 pub fn step(
-    file: &[u8],
-    places: &[u32],
-    lefts: &[u32],
-    rights: &[u32],
-    prefixes: &[u32],
-    area: &[u32],
-    n: usize,
+    tables: &RowTables<'_>,
     text: &[u8],
     encoder: BacktrackEncoder,
     work: &mut [u32],
-    alive: &mut [u64; 65],
+    alive: &mut BitField,
 ) -> BacktrackEncoder
-    requires text_ready { TextReady (given file places lefts rights prefixes area) n text.now work.old }
-    requires encoder_ready { EncoderReady file.now n text.now encoder work.old }
-    ensures { Stepped (lent file places lefts rights prefixes area)
-        n text.now encoder work.old alive.old result work.new alive.new }
+    requires text_ready { TextReady (given tables.now) tables.now.rows.n text.now work.old }
+    requires encoder_ready { EncoderReady tables.now.rows.file.now tables.now.rows.n text.now encoder work.old }
+    ensures { Stepped (given tables.now) tables.now.rows.n text.now encoder work.old alive.old.words
+        result work.new alive.new.words }
 {
     if encoder.next == NONE {
         return encoder;
     }
-    let token = first_fit(
-        file, places, lefts, rights, prefixes, area, n, text, encoder, work, alive,
-    );
+    let token = first_fit(tables, text, encoder, work, alive);
     if token == NONE {
-        return take_back(file, places, n, text, encoder, work, alive);
+        return take_back(&tables.rows, text, encoder, work, alive);
     }
-    add(file, places, area, n, text, encoder, token, work)
+    add(&tables.rows, tables.area, text, encoder, token, work)
 }
 
 // The codes of a text, into the front of the work buffer, and how many. A text of m bytes takes at most 2 m steps.
-pub fn backtrack(
-    file: &[u8],
-    places: &[u32],
-    lefts: &[u32],
-    rights: &[u32],
-    prefixes: &[u32],
-    area: &[u32],
-    n: usize,
-    text: &[u8],
-    work: &mut [u32],
-) -> usize
-    requires { TextReady (given file places lefts rights prefixes area) n text.now work.old }
-    ensures { Backtracked (lent file places lefts rights prefixes area)
-        n text.now work.old result work.new }
+pub fn backtrack(tables: &RowTables<'_>, text: &[u8], work: &mut [u32]) -> usize
+    requires { TextReady (given tables.now) tables.now.rows.n text.now work.old }
+    ensures { Backtracked (given tables.now) tables.now.rows.n text.now work.old result work.new }
 {
-    let mut alive = all_set();
-    let mut encoder = start(file, places, area, n, text);
+    let mut alive = BitField::new();
+    let mut encoder = start(&tables.rows, tables.area, text);
     for _done in 0..2 * text.len() {
         if encoder.next == NONE {
             return encoder.count;
         }
-        encoder = step(
-            file, places, lefts, rights, prefixes, area, n, text, encoder, work, &mut alive,
-        );
+        encoder = step(tables, text, encoder, work, &mut alive);
     }
     encoder.count
 }
 
 // The codes of a text, into the front of the output, and how many.
 pub fn encode_via_backtracking_core(
-    file: &[u8],
-    places: &[u32],
-    lefts: &[u32],
-    rights: &[u32],
-    prefixes: &[u32],
-    area: &[u32],
-    n: usize,
+    tables: &RowTables<'_>,
     text: &[u8],
     out: &mut [u32],
     work: &mut [u32],
 ) -> usize
-    requires { OutputReady (given file places lefts rights prefixes area) n text.now out.old work.old }
-    ensures { EncodedInto (lent file places lefts rights prefixes area)
-        n text.now out.old work.old result out.new work.new }
+    requires { OutputReady (given tables.now) tables.now.rows.n text.now out.old work.old }
+    ensures { EncodedInto (given tables.now) tables.now.rows.n text.now out.old work.old
+        result out.new work.new }
 {
-    let count = backtrack(file, places, lefts, rights, prefixes, area, n, text, work);
+    let count = backtrack(tables, text, work);
     out[..count].copy_from_slice(&work[..count]);
     count
 }
 
 // The number of codes of a text.
-pub fn count_core(
-    file: &[u8],
-    places: &[u32],
-    lefts: &[u32],
-    rights: &[u32],
-    prefixes: &[u32],
-    area: &[u32],
-    n: usize,
-    text: &[u8],
-    work: &mut [u32],
-) -> usize
-    requires { TextReady (given file places lefts rights prefixes area) n text.now work.old }
-    ensures { CountIs (lent file places lefts rights prefixes area)
-        n text.now work.old result work.new }
+pub fn count_core(tables: &RowTables<'_>, text: &[u8], work: &mut [u32]) -> usize
+    requires { TextReady (given tables.now) tables.now.rows.n text.now work.old }
+    ensures { CountIs (given tables.now) tables.now.rows.n text.now work.old result work.new }
 {
-    backtrack(file, places, lefts, rights, prefixes, area, n, text, work)
+    backtrack(tables, text, work)
 }

@@ -19,13 +19,13 @@ overflow_add-count c =
     let p = c.requires in
     omega (arith, count_room _ _ _ p.rows_ready.places_ready _ _ _ p.encoder_ready.0 _ p.encoder_ready.1.1, p.rows_ready.short)
 
-pub next_match-found-requires-clause-area_size_in_bounds : goal.next_match-found-requires-clause-area_size_in_bounds
-next_match-found-requires-clause-area_size_in_bounds c =
+pub next_match-found-requires : goal.next_match-found-requires
+next_match-found-requires c =
     let p = c.requires in
-    (p.rows_ready.area_room, add-inside _ _ _ _ _ _ _ _ _ _ p.rows_ready p.encoder_ready.0 p.encoder_ready.1.0 p.encoder_ready.1.1 c.wide.ensures c.length_of.ensures)
+    record { area_size_in_bounds = (p.rows_ready.area_room, add-inside _ _ _ _ _ _ _ _ _ p.rows_ready p.encoder_ready.0 p.encoder_ready.1.0 p.encoder_ready.1.1 c.length_of.ensures) }
 
 pub returns : goal.returns
 returns c =
     let p = c.requires in
-    move_add _ _ _ _ _ _ _ _ _ _ p.rows_ready p.encoder_ready.0 p.encoder_ready.1.0 p.encoder_ready.1.1 c.wide.ensures c.length_of.ensures _ _
+    move_add _ _ _ _ _ _ _ _ _ p.rows_ready p.encoder_ready.0 p.encoder_ready.1.0 p.encoder_ready.1.1 c.length_of.ensures _ _
     (λ i. (c.type_inv.text i).fits) c.next_match-found.ensures

@@ -1,5 +1,5 @@
 -- The side of a text at which bytes are typed.
-use Rattle.std.specs.Prelude.{ℕ, get_or}
+use Rattle.std.specs.Prelude.{cond, ℕ, eqb, get_or}
 use Rattle.theory.specs.Typing as Typing
 use Rattle.theory.specs.Typing.{append, prepend}
 use Rattle.tables.specs.Tables.{PairTables}
@@ -10,6 +10,10 @@ use Rattle.end_code.specs.declared.Side.TheVariants.{Append, Prepend}
 abbrev pub side_of : Side → Typing.Side
 side_of Append = append
 side_of Prepend = prepend
+
+-- the side by its number: 0 appends, any other number prepends
+abbrev pub side_numbered : ℕ → Side
+side_numbered number = cond (eqb number 0) Append Prepend
 
 -- the part of row x at that side of it: its last, or its first
 abbrev pub inner_of : PairTables → Typing.Side → ℕ → ℕ

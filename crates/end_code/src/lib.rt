@@ -9,7 +9,7 @@ ghost use Rattle.theory.proofs.Spine.{or_else};
 ghost use Rattle.built_tables.specs.Built.{dictionary_of};
 ghost use Rattle.tables.specs.Tables.{pair_given};
 ghost use Rattle.end_code.specs.Tables.{RowReady};
-ghost use Rattle.end_code.specs.Sides.{side_of, inner_of, other_of};
+ghost use Rattle.end_code.specs.Sides.{side_of, side_numbered, inner_of, other_of};
 ghost use Rattle.end_code.specs.Joins.{PartReady, BesideReady, BesideIs, FirstReady, FirstIs};
 ghost use Rattle.end_code.specs.Codes.{ByteReady, ByteIs, CodeReady, CodeIs};
 
@@ -31,6 +31,21 @@ fn or_else(v: u32, other: u32) -> u32
 pub enum Side {
     Append,
     Prepend,
+}
+
+// The side by its number, for callers that have no enums: 0 appends, any other number prepends.
+impl From<u32> for Side {
+    ghost from_gives = { λ number side. side ≡ side_numbered number };
+
+    fn from(number: u32) -> Self
+        ensures { result ≡ side_numbered number }
+    {
+        if number == 0 {
+            Side::Append
+        } else {
+            Side::Prepend
+        }
+    }
 }
 
 impl Side {

@@ -18,9 +18,9 @@ use Rattle.theory.specs.Typing.{Side, append, prepend, in_order}
 use Rattle.theory.proofs.Lists.{and_both, equal_eq, equal_refl}
 use Rattle.theory.proofs.TypingLists.{and-true, cut_right}
 use Rattle.theory.proofs.Sides.{length-in_order}
-use Rattle.typing_columns.specs.declared.Side as Declared
-use Rattle.typing_columns.specs.declared.Side.TheVariants.{Append, Prepend}
-use Rattle.typing_columns.specs.Sides.{side_of}
+use Rattle.end_code.specs.declared.Side as Declared
+use Rattle.end_code.specs.declared.Side.TheVariants.{Append, Prepend}
+use Rattle.end_code.specs.Sides.{side_of}
 use Rattle.typing_columns.specs.Steps.{ends_bytes, EndsReady}
 use Rattle.built_tables.specs.Built.{dictionary_of}
 use Rattle.typing_columns.proofs.Mirror.{mirror_text}
@@ -58,14 +58,14 @@ module _ (D : Dictionary) (side : Side) (bytes : List ℕ) (i c : ℕ) (h : i < 
   ends_test : begins (facing true (in_order side b)) (facing true t) ≡ ends_bytes D side bytes i c
   ends_test = iff _ _ begun ended
 
--- row c, read by a number x
-module _ (file places : List ℕ) (s : Declared.Side) (n : ℕ) (bytes reading : List ℕ) (i c x : ℕ) (R : EndsReady file places n bytes reading i c)
-    (is : x ≡ c) (t : List ℕ) (t-is : t ≡ row file places n x) where
+-- row c as it is read
+module _ (file places : List ℕ) (s : Declared.Side) (n : ℕ) (bytes reading : List ℕ) (i c : ℕ) (R : EndsReady file places n bytes reading i c)
+    (t : List ℕ) (t-is : t ≡ row file places n c) where
   inside : i < length bytes
   inside = omega (arith, R.mirrored.fits, R.mirrored.bytes_size)
 
   read : t ≡ (dictionary_of file).bytes c
-  read = row_read file places n c x t R.places_ready R.row is t-is
+  read = row_read file places n c t R.places_ready R.row t-is
 
   -- in appending it ends the bytes
   pub ends-appended : s ≡ Append → (r : Bool) → r ≡ begins (facing true t) (facing true (take (i + 1) bytes)) → r ≡ ends_bytes (dictionary_of file) (side_of s) bytes i c

@@ -12,9 +12,9 @@ use Rattle.pair_check.specs.Pair.{PairIs}
 use Rattle.built_tables.specs.Built.{dictionary_of}
 use Rattle.built_tables.proofs.Rows.{pair_is}
 use Rattle.end_code.proofs.Sizes.{row-some}
-use Rattle.typing_columns.specs.declared.Side as Declared
-use Rattle.typing_columns.specs.declared.Side.TheVariants.{Append, Prepend}
-use Rattle.typing_columns.specs.Sides.{side_of}
+use Rattle.end_code.specs.declared.Side as Declared
+use Rattle.end_code.specs.declared.Side.TheVariants.{Append, Prepend}
+use Rattle.end_code.specs.Sides.{side_of}
 use Rattle.typing_columns.specs.Steps.{follows_if, count_with, PairOf, BesideIs, FollowsReady, FollowsIs, CountReady, CountIs}
 use Rattle.tables.specs.Tables.{PairTables, with_prefixes}
 

@@ -102,8 +102,8 @@ module _ (P : PairTables) (side : Side) (n : ℕ) (bytes reading codes counts : 
   fails_early = fails (check_at D' side codes i) (λ prefixes B. refl)
 
   -- its code is no row
-  pub record_unknown : (x : ℕ) → x ≡ c' → n ≤ x → RecordIs P side n bytes codes counts i false
-  record_unknown x e h = fails_early (rw (le-ltb c' D'.count (omega (arith, counted))))
+  pub record_unknown : n ≤ c' → RecordIs P side n bytes codes counts i false
+  record_unknown h = fails_early (rw (le-ltb c' D'.count (omega (arith, counted))))
 
   module _ (h : c' < n) where
     known : ltb c' D'.count ≡ true

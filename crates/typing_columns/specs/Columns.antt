@@ -1,9 +1,9 @@
 -- Typing over columns: the bytes, codes and counts of the records, each in a buffer of its own.
-use Rattle.std.specs.Prelude.{◌≡◌, List, ◌++◌, Bool, false, ℕ, zero, suc, ◌+◌, ◌<◌, ◌≤◌, length, get_or, take}
+use Rattle.std.specs.Prelude.{◌≡◌, List, ◌++◌, Bool, false, ℕ, zero, suc, ◌+◌, ◌<◌, ◌≤◌, length, get_or, take, Result}
 use Rattle.theory.specs.Typing as Typing
 use Rattle.tables.specs.Tables.{Tables}
 use Rattle.tables.specs.InForm.{count, all_below}
-use Rattle.causes.specs.declared.Answer.{Answer}
+use Rattle.causes.specs.declared.Cause.{Cause}
 use Rattle.causes.specs.Call.{Call, to_number, no_buffer}
 use Rattle.built_tables.specs.Built.{dictionary_of, Built}
 use Rattle.typing_columns.specs.Refusals.{head_out, extend_refusal, token_count_refusal}
@@ -49,7 +49,7 @@ module _ (T : Tables) (side : Typing.Side) (len size : ℕ) where
         → Typed bytes codes counts typed bytes' codes' counts' k
 
   -- push and extend on columns; what is not said of the columns is scratch
-  pub record ExtendedColumns (bytes codes counts typed : List ℕ) (r : Answer)
+  pub record ExtendedColumns (bytes codes counts typed : List ℕ) (r : Result ℕ Cause)
       (bytes' codes' counts' : List ℕ) : Type 0 where
     pub fine : Bool
     pub form : FormOf bytes codes counts fine
@@ -57,7 +57,7 @@ module _ (T : Tables) (side : Typing.Side) (len size : ℕ) where
         (ColumnsExtended bytes codes counts typed bytes' codes' counts') r
 
   -- `token_count` on columns: the last record's count
-  pub record CountedColumns (bytes codes counts : List ℕ) (r : Answer) : Type 0 where
+  pub record CountedColumns (bytes codes counts : List ℕ) (r : Result ℕ Cause) : Type 0 where
     pub fine : Bool
     pub form : FormOf bytes codes counts fine
     pub call : Call to_number (token_count_refusal T len size fine) no_buffer (λ number. number ≡ last_count counts len) r

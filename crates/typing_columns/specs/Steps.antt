@@ -1,12 +1,11 @@
 -- What the functions under the calls on columns require and ensure. Records below a length are read, and one is added
 -- at a time.
-use Rattle.std.specs.Prelude.{◌≡◌, List, ◌++◌, Bool, true, cond, ◌&&◌, ◌||◌, ℕ, suc, ◌+◌, ◌-◌, ◌≤◌, ◌<◌, length, get_or, set, take, drop, ltb, leb, eqb}
+use Rattle.std.specs.Prelude.{◌≡◌, List, ◌++◌, Bool, true, false, cond, ◌&&◌, ◌||◌, ℕ, suc, ◌+◌, ◌-◌, ◌≤◌, ◌<◌, length, get_or, set, take, drop, ltb, leb, eqb, Option, None, Some}
 use Rattle.theory.specs.Dictionary.{Dictionary}
 use Rattle.theory.specs.Lists.{equal}
 use Rattle.theory.specs.Typing as Typing
-use Rattle.tables.specs.Tables.{Tables, PairTables, with_prefixes}
-use Rattle.tables.specs.declared.Form.{Form}
-use Rattle.tables.specs.declared.Form.TheVariants.{Rows, Out}
+use Rattle.tables.specs.declared.row_tables.RowTables.{RowTables}
+use Rattle.tables.specs.Tables.{Tables, PairTables, with_prefixes, given}
 use Rattle.tables.specs.InForm.{form_of, all_below}
 use Rattle.tables.specs.Ready.{PlacesReady, Ready}
 use Rattle.built_tables.specs.Built.{dictionary_of, Built}
@@ -194,20 +193,26 @@ pub record ExtendedBy (P : PairTables) (side : Typing.Side) (n len : ℕ)
       → CodesAre P.file side (take len bytes ++ typed) codes' (len + length typed)
       × CountsAre P.file side (take len bytes ++ typed) counts' (len + length typed)
 
--- records that passed the checks: over tables that a build left they are the true ones
-pub record PassedTo (T : Tables) (side : Typing.Side) (n len : ℕ) (bytes reading codes counts : List ℕ) : Type 0 where
-  pub tables : Ready T n
-  pub mirrored : Mirrored bytes reading len
-  pub rows : RowsTo n codes len
+-- tables with their rows behind which records passed the checks: over tables that a build left they are the true ones
+pub record Passed (T : Tables) (side : Typing.Side) (len : ℕ) (bytes codes counts : List ℕ) (t : RowTables) : Type 0 where
+  pub same : given t ≡ T
+  pub tables : Ready T t.rows.n
+  pub fits : len ≤ 4096
+  pub rows : RowsTo t.rows.n codes len
   pub small : CountsTo counts len
-  pub codes_are : Built T n → CodesAre T.file side bytes codes len
-  pub counts_are : Built T n → CountsAre T.file side bytes counts len
+  pub codes_are : Built T t.rows.n → CodesAre T.file side bytes codes len
+  pub counts_are : Built T t.rows.n → CountsAre T.file side bytes counts len
 
--- the checks of tables, head and records: the count of rows, or out of form; if there is none, the records below len
--- may be read
-pub record Checked (T : Tables) (side : Typing.Side) (len size : ℕ) (bytes codes counts reading : List ℕ)
-    (r : Form) : Type 0 where
+-- by whether the records are in form: nothing where tables, head or records are out of form, else the tables with
+-- their rows
+abbrev pub CheckedIs : (T : Tables) (side : Typing.Side) (len size : ℕ) (bytes codes counts : List ℕ) → Bool → Option RowTables → Type 0
+CheckedIs T side len size bytes codes counts fine None = any_out (form_of T) len size fine ≡ true
+CheckedIs T side len size bytes codes counts fine (Some t) =
+    (any_out (form_of T) len size fine ≡ false) × Passed T side len bytes codes counts t
+
+-- the checks of tables, head and records
+pub record Checked (T : Tables) (side : Typing.Side) (len size : ℕ) (bytes codes counts : List ℕ)
+    (r : Option RowTables) : Type 0 where
   pub fine : Bool
   pub form : FormOf T side len size bytes codes counts fine
-  pub answer : r ≡ cond (any_out (form_of T) len size fine) Out (form_of T)
-  pub passed : (n : ℕ) → r ≡ Rows n → PassedTo T side n len bytes reading codes counts
+  pub is : CheckedIs T side len size bytes codes counts fine r

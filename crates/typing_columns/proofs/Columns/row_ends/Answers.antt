@@ -3,7 +3,7 @@ use Rattle.typing_columns.proofs.Ending.{ends-appended, ends-prepended}
 use Rattle.typing_columns.proofs.Columns.row_ends.Goals as goal
 
 pub returns-in-Append : goal.returns-in-Append
-returns-in-Append c = ends-appended _ _ _ _ _ _ _ _ _ c.requires c.wide.ensures.is _ c.bytes_of-row.ensures c.in-Append.is _ c.begins_facing.ensures
+returns-in-Append c = ends-appended _ _ _ _ _ _ _ _ c.requires _ c.bytes_of-row.ensures c.in-Append.is _ c.begins_facing.ensures
 
 pub returns-in-Prepend : goal.returns-in-Prepend
-returns-in-Prepend c = ends-prepended _ _ _ _ _ _ _ _ _ c.requires c.wide.ensures.is _ c.bytes_of-row.ensures c.in-Prepend.is _ c.begins_facing-in-Prepend.ensures
+returns-in-Prepend c = ends-prepended _ _ _ _ _ _ _ _ c.requires _ c.bytes_of-row.ensures c.in-Prepend.is _ c.begins_facing-in-Prepend.ensures

@@ -79,7 +79,10 @@ module _ (text work out₀ : List ℕ) where
     }
 
     -- the entry of the place says how many bytes its row has
-    module _ (h : at < length text) (w : ℕ) (is : w ≡ get_or work at 0 / 4096 % 64) where
+    module _ (h : at < length text) where
+      abbrev w : ℕ
+      w = get_or work at 0 / 4096 % 64
+
       pub reading_more : Reading text work out₀ (set out count (get_or work at 0 % 4096)) (at + (64 - w)) (count + 1)
       reading_more =
           let b = S.behind in

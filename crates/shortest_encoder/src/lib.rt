@@ -9,9 +9,12 @@ ghost use Rattle.shortest_encoder.specs.Entries.{entry_of, count_from, EntryRead
 ghost use Rattle.shortest_encoder.specs.Entries.{CodesRead};
 
 use placed_rows::NONE;
+use search_area::{first_match, longer_match, next_match};
+use tables::RowTables;
 
 // The entry of count codes, the first of which is row, of len bytes. Of two entries of a place the lesser one has
 // fewer codes, or as many and the longer row.
+// Kept: no heap: the entries stand in the work buffer that a caller lends, one number each.
 fn entry_of(count: u32, len: usize, row: u32) -> u32
     requires { (count < 16384) × ((0 < len) × ((len ≤ 64) × (row < 4096))) }
     ensures { result ≡ entry_of count len row }
@@ -32,20 +35,13 @@ fn codes_behind(text: &[u8], work: &[u32], end: usize) -> u32
 }
 
 // The entry of place i. The rows at the place are tried, shortest first, and the least entry of them is kept.
-fn best_at(
-    file: &[u8],
-    places: &[u32],
-    area: &[u32],
-    n: usize,
-    text: &[u8],
-    i: usize,
-    work: &[u32],
-) -> u32
-    requires { EntryReady file.now places.now area.now n text.now work.now i }
-    ensures { EntryIs file.now places.now area.now n text.now
-        work.now i result }
+fn best_at(tables: &RowTables<'_>, text: &[u8], i: usize, work: &[u32]) -> u32
+    requires { let r = tables.now.rows in EntryReady r.file.now r.places.now tables.now.area.now r.n
+        text.now work.now i }
+    ensures { let r = tables.now.rows in EntryIs r.file.now r.places.now tables.now.area.now r.n
+        text.now work.now i result }
 {
-    let first = search_area::first_match(file, places, area, n, text, i);
+    let first = first_match(&tables.rows, tables.area, text, i);
     if first.row == NONE {
         // Never on the tables of a build: each byte has a row.
         return 0;
@@ -54,7 +50,7 @@ fn best_at(
     let mut len = first.len;
     let mut best = entry_of(codes_behind(text, work, i + len) + 1, len, row);
     while i + len < text.len() {
-        let longer = search_area::longer_match(file, places, area, n, row, len, text, i);
+        let longer = longer_match(&tables.rows, tables.area, row, len, text, i);
         if longer.row == NONE {
             return best;
         }
@@ -72,13 +68,14 @@ fn best_at(
 }
 
 // The entries of all places, from the last one on.
-fn fill_entries(file: &[u8], places: &[u32], area: &[u32], n: usize, text: &[u8], work: &mut [u32])
-    requires { EntriesReady file.now places.now area.now n text.now work.old }
-    ensures { Entries file.now places.now area.now n text.now
-        work.old work.new }
+fn fill_entries(tables: &RowTables<'_>, text: &[u8], work: &mut [u32])
+    requires { let r = tables.now.rows in EntriesReady r.file.now r.places.now tables.now.area.now r.n
+        text.now work.old }
+    ensures { let r = tables.now.rows in Entries r.file.now r.places.now tables.now.area.now r.n
+        text.now work.old work.new }
 {
     for i in (0..text.len()).rev() {
-        let entry = best_at(file, places, area, n, text, i, work);
+        let entry = best_at(tables, text, i, work);
         work[i] = entry;
     }
 }
@@ -96,46 +93,38 @@ fn read_codes(text: &[u8], work: &[u32], out: &mut [u32]) -> usize
         let code = entry % 4096;
         out[count] = code;
         count += 1;
-        place += 64 - placed_rows::wide(entry / 4096 % 64);
+        place += 64 - (entry / 4096 % 64) as usize;
     }
     count
 }
 
 // The fewest codes of the text into out, and how many: entries from the right, then the codes from the left.
 pub fn encode_minimal_core(
-    file: &[u8],
-    places: &[u32],
-    area: &[u32],
-    n: usize,
+    tables: &RowTables<'_>,
     text: &[u8],
     out: &mut [u32],
     work: &mut [u32],
 ) -> usize
-    requires { MinimalReady file.now places.now area.now n text.now out.old work.old }
-    ensures { MinimalIs file.now places.now area.now n text.now
-        out.old out.new work.old work.new result }
+    requires { let r = tables.now.rows in MinimalReady r.file.now r.places.now tables.now.area.now r.n
+        text.now out.old work.old }
+    ensures { let r = tables.now.rows in MinimalIs r.file.now r.places.now tables.now.area.now r.n
+        text.now out.old out.new work.old work.new result }
 {
-    fill_entries(file, places, area, n, text, work);
+    fill_entries(tables, text, work);
     read_codes(text, work, out)
 }
 
 // The longest row at each place into out, and how many.
-pub fn encode_greedy_core(
-    file: &[u8],
-    places: &[u32],
-    area: &[u32],
-    n: usize,
-    text: &[u8],
-    out: &mut [u32],
-) -> usize
-    requires { GreedyReady file.now places.now area.now n text.now out.old }
-    ensures { GreedyIs file.now places.now area.now n text.now
-        out.old out.new result }
+pub fn encode_greedy_core(tables: &RowTables<'_>, text: &[u8], out: &mut [u32]) -> usize
+    requires { let r = tables.now.rows in GreedyReady r.file.now r.places.now tables.now.area.now r.n
+        text.now out.old }
+    ensures { let r = tables.now.rows in GreedyIs r.file.now r.places.now tables.now.area.now r.n
+        text.now out.old out.new result }
 {
     let mut at = 0;
     let mut count = 0;
     while at < text.len() {
-        let next = search_area::next_match(file, places, area, n, text, at);
+        let next = next_match(&tables.rows, tables.area, text, at);
         if next.row == NONE {
             // Never on the tables of a build: each byte has a row.
             return count;

@@ -3,7 +3,7 @@ use Rattle.shortest_encoder.proofs.Reading.{reading_ends, reading_more}
 use Rattle.shortest_encoder.proofs.read_codes.Goals as goal
 
 pub loop-place-preserved : goal.loop-place-preserved
-loop-place-preserved c = reading_more _ _ _ _ _ _ c.loop-place.invariant c.loop-place-test.true _ c.wide.ensures.is
+loop-place-preserved c = reading_more _ _ _ _ _ _ c.loop-place.invariant c.loop-place-test.true
 
 pub returns : goal.returns
 returns c = reading_ends _ _ _ _ _ _ c.loop-place.invariant c.loop-place-test.false

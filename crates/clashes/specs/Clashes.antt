@@ -1,6 +1,6 @@
 -- Causes 5 and 13. Document 02, ticket 1: "5 means equal bytes only, and a clash of different rows has its own number,
 -- with the later row as place". Each is the lowest row that passes a test with an earlier row.
-use Rattle.std.specs.Prelude.{◌≡◌, List, Bool, true, false, not, ◌&&◌, ◌||◌, ℕ, zero, suc, length, drop, eqb}
+use Rattle.std.specs.Prelude.{◌≡◌, List, Bool, true, false, not, ◌&&◌, ◌||◌, ℕ, zero, suc, ◌<◌, length, drop, eqb, Option, None, Some}
 use Rattle.theory.specs.Lists.{equal}
 use Rattle.fnv.specs.Fnv.{row_hash}
 
@@ -36,3 +36,8 @@ pub record Found (test : ℕ → ℕ → Bool) (n : ℕ) (entry exit : List ℕ)
   pub answer : r ≡ first_with test n
   pub kept : length exit ≡ length entry
   pub beyond : drop 16384 exit ≡ drop 16384 entry
+
+-- the same where it answers none in place of n
+abbrev pub FirstFound : (test : ℕ → ℕ → Bool) (n : ℕ) (entry exit : List ℕ) → Option ℕ → Type 0
+FirstFound test n entry exit None = Found test n entry exit n
+FirstFound test n entry exit (Some r) = Found test n entry exit r × (r < n)

@@ -7,11 +7,11 @@ ghost use Rattle.std.specs.Prelude.{◌≡◌, Bool, true, false, not, ◌||◌,
 ghost use Rattle.theory.specs.Lists.{equal};
 ghost use Rattle.placed_rows.specs.Reading.{rows_of};
 ghost use Rattle.placed_rows.specs.Texts.{Small};
-ghost use Rattle.clashes.specs.Clashes.{is_equal, shares_hash, Found};
+ghost use Rattle.clashes.specs.Clashes.{is_equal, shares_hash, FirstFound};
 ghost use Rattle.clashes.specs.Buckets.{emptied, head, listed, pushed, is_sought, sought};
 
 use fnv::hash_bytes;
-use placed_rows::{NONE, Rows, wide};
+use placed_rows::{NONE, Rows};
 
 // How many buckets there are: the scratch begins with the head of each.
 const BUCKETS: usize = 4096;
@@ -25,10 +25,11 @@ const HASHES: usize = 8192;
 fn bucket(hash: u32) -> usize
     ensures { Small (hash % 4096) 4096 result }
 {
-    wide(hash) % BUCKETS
+    hash as usize % BUCKETS
 }
 
 // Empties all buckets.
+// Kept: no plainer: a struct that holds the lent scratch, with its size, needs clauses on the borrow in each method.
 fn empty(scratch: &mut [u32])
     requires { 16384 ≤ length scratch.old }
     ensures { scratch.new ≡ emptied scratch.old 4096 }
@@ -87,13 +88,13 @@ fn has<S: Sought>(rows: &Rows<'_>, scratch: &[u32], hash: u32, bytes: &[u8], cou
         S.exact) count (head scratch.now hash) }
 {
     let mut below = count;
-    let mut at = wide(scratch[bucket(hash)]);
+    let mut at = scratch[bucket(hash)] as usize;
     while at < below {
         if is_sought::<S>(rows, scratch, hash, bytes, at) {
             return true;
         }
         below = at;
-        at = wide(scratch[LINKS + at]);
+        at = scratch[LINKS + at] as usize;
     }
     false
 }
@@ -111,10 +112,10 @@ fn push(scratch: &mut [u32], row: usize, hash: u32)
     scratch[at] = row as u32;
 }
 
-// The lowest row that has of an earlier row what is looked for, n where there is none.
-fn first_sought<S: Sought>(rows: &Rows<'_>, factor: u64, scratch: &mut [u32]) -> usize
+// The lowest row that has of an earlier row what is looked for.
+fn first_sought<S: Sought>(rows: &Rows<'_>, factor: u64, scratch: &mut [u32]) -> Option<usize>
     requires { 16384 ≤ length scratch.old }
-    ensures { Found (sought (rows_of rows.now) factor S.exact) rows.now.n
+    ensures { FirstFound (sought (rows_of rows.now) factor S.exact) rows.now.n
         scratch.old scratch.new result }
 {
     empty(scratch);
@@ -122,27 +123,27 @@ fn first_sought<S: Sought>(rows: &Rows<'_>, factor: u64, scratch: &mut [u32]) ->
         let bytes = rows.bytes_of(row);
         let hash = hash_bytes(bytes, factor);
         if has::<S>(rows, scratch, hash, bytes, row) {
-            return row;
+            return Some(row);
         }
         push(scratch, row, hash);
     }
-    rows.n
+    None
 }
 
-// The lowest row with the hash of an earlier row, whatever their bytes, n where there is none.
-pub fn first_shared(rows: &Rows<'_>, factor: u64, scratch: &mut [u32]) -> usize
+// The lowest row with the hash of an earlier row, whatever their bytes.
+pub fn first_shared(rows: &Rows<'_>, factor: u64, scratch: &mut [u32]) -> Option<usize>
     requires { 16384 ≤ length scratch.old }
-    ensures { Found (shares_hash (rows_of rows.now) factor) rows.now.n
+    ensures { FirstFound (shares_hash (rows_of rows.now) factor) rows.now.n
         scratch.old scratch.new result }
 {
     first_sought::<SharedHash>(rows, factor, scratch)
 }
 
-// The lowest row with the bytes of an earlier row, n where there is none. The hashes only spare comparisons: factor 1
+// The lowest row with the bytes of an earlier row. The hashes only spare comparisons: factor 1
 // serves, whatever factor a build has, and under it rows of different bytes seldom have one hash.
-pub fn first_equal(rows: &Rows<'_>, scratch: &mut [u32]) -> usize
+pub fn first_equal(rows: &Rows<'_>, scratch: &mut [u32]) -> Option<usize>
     requires { 16384 ≤ length scratch.old }
-    ensures { Found (is_equal (rows_of rows.now)) rows.now.n scratch.old
+    ensures { FirstFound (is_equal (rows_of rows.now)) rows.now.n scratch.old
         scratch.new result }
 {
     first_sought::<EqualBytes>(rows, 1, scratch)

@@ -2,8 +2,8 @@
 // a must-fail edit proves its whole crate again.
 #![tactic(auto)]
 
-ghost use Rattle.std.specs.Prelude.{◌≡◌, false, ◌<◌, ◌≤◌, length};
-ghost use Rattle.dictionary.specs.Build.{too_short, cleared, all_cleared, BuildIs};
+ghost use Rattle.std.specs.Prelude.{◌≡◌, ◌<◌, ◌≤◌, length};
+ghost use Rattle.dictionary.specs.Build.{too_short, cleared, BuildIs};
 ghost use Rattle.dictionary.specs.Steps.{Buildable, ClashTold, TablesFilled};
 ghost use Rattle.tables.specs.Tables.{tables, lent, lent_to_fill, left};
 
@@ -32,27 +32,6 @@ fn clear(table: &mut [u32], size: usize)
     table[..size].fill(NONE);
 }
 
-// The first n entries of each table and the search area become NONE.
-fn clear_all(
-    file: &[u8],
-    places: &mut [u32],
-    lefts: &mut [u32],
-    rights: &mut [u32],
-    prefixes: &mut [u32],
-    area: &mut [u32],
-    n: usize,
-)
-    requires { too_short (tables file.now places.old lefts.old rights.old prefixes.old area.old) n ≡ false }
-    ensures { left file places lefts rights prefixes area ≡ all_cleared n
-        (lent_to_fill file places lefts rights prefixes area) }
-{
-    clear(places, n);
-    clear(lefts, n);
-    clear(rights, n);
-    clear(prefixes, n);
-    clear(area, AREA);
-}
-
 // Why a file is refused in which `shared` is the lowest row with the hash of an earlier one: two rows are equal (5), or
 // else these two are different rows with one hash (13).
 fn clash_cause(rows: &Rows<'_>, shared: usize, area: &mut [u32]) -> Cause
@@ -60,15 +39,15 @@ fn clash_cause(rows: &Rows<'_>, shared: usize, area: &mut [u32]) -> Cause
     requires shared_lt_n { shared < rows.now.n }
     ensures { let r = rows.now in ClashTold r.file.now r.places.now r.n shared area.old area.new result }
 {
-    let equal = clashes::first_equal(rows, area);
-    if equal < rows.n {
-        return Cause::EqualRow(equal as u32);
+    match clashes::first_equal(rows, area) {
+        Some(equal) => Cause::EqualRow(equal as u32),
+        None => Cause::SameHash(shared as u32),
     }
-    Cause::SameHash(shared as u32)
 }
 
 // Fills the tables and the search area of a file that passes the checks, or refuses it by 5, 13 or 6. Rows are looked
 // at byte by byte only where two have one hash, so that an accepted file needs no such look.
+// Kept: no plainer: a struct of the five slices that are written needs clauses on each borrow in each method.
 fn fill_tables(
     file: &[u8],
     factor: u64,
@@ -85,43 +64,18 @@ fn fill_tables(
 {
     phrase_file::fill_places(file, places);
     let rows = Rows { file, places, n };
-    let shared = clashes::first_shared(&rows, factor, area);
-    if shared < n {
+    if let Some(shared) = clashes::first_shared(&rows, factor, area) {
         return Err(clash_cause(&rows, shared, area));
     }
     search_fill::fill(&rows, prefixes, area);
-    let without = parts::fill_parts(&rows, lefts, rights, prefixes, area);
-    if without < n {
+    if let Some(without) = parts::fill_parts(&rows, lefts, rights, prefixes, area) {
         return Err(Cause::NoParts(without as u32));
     }
     Ok(n)
 }
 
-// The same, and a refusal leaves NONE in the tables and in the search area.
-fn build_rows(
-    file: &[u8],
-    factor: u64,
-    places: &mut [u32],
-    lefts: &mut [u32],
-    rights: &mut [u32],
-    prefixes: &mut [u32],
-    area: &mut [u32],
-    n: usize,
-) -> Result<usize, Cause>
-    requires { Buildable factor (tables file.now places.old lefts.old rights.old prefixes.old area.old) n }
-    ensures { BuildIs factor (lent_to_fill file places lefts rights prefixes area)
-        (left file places lefts rights prefixes area) result }
-{
-    match fill_tables(file, factor, places, lefts, rights, prefixes, area, n) {
-        Ok(count) => Ok(count),
-        Err(cause) => {
-            clear_all(file, places, lefts, rights, prefixes, area, n);
-            Err(cause)
-        }
-    }
-}
-
 // Fills the tables and the search area from a phrase file, and answers with the count of rows; or refuses the file.
+// Refused by 5, 13 or 6, it leaves NONE in the tables and in the search area.
 pub fn from_dictionary(
     file: &[u8],
     factor: u64,
@@ -149,5 +103,15 @@ pub fn from_dictionary(
     if are_short(&tables, n) {
         return Err(Cause::TooShort);
     }
-    build_rows(file, factor, places, lefts, rights, prefixes, area, n)
+    match fill_tables(file, factor, places, lefts, rights, prefixes, area, n) {
+        Ok(count) => Ok(count),
+        Err(cause) => {
+            clear(places, n);
+            clear(lefts, n);
+            clear(rights, n);
+            clear(prefixes, n);
+            clear(area, AREA);
+            Err(cause)
+        }
+    }
 }

@@ -3,8 +3,8 @@
 
 ghost use Rattle.std.specs.Prelude.{◌≡◌, ◌≤◌, ◌<◌, length};
 ghost use Rattle.marks.specs.Layout.{area_size};
-ghost use Rattle.parts.specs.Parts.{Looking, Beginner, PrefixesFound, PartsFit, PartsFilled};
-ghost use Rattle.parts.specs.Found.{RightPart, PartsFound};
+ghost use Rattle.parts.specs.Parts.{Looking, Beginner, PrefixesFound, PartsFit};
+ghost use Rattle.parts.specs.Found.{RightPart, PartsFound, FilledUpTo};
 ghost use Rattle.parts.specs.Marking.{PairsEmptied, Named, WriteFit, PartsWritten, SeamFit, SeamWritten};
 ghost use Rattle.tables.specs.Tables.{pair_given};
 
@@ -50,6 +50,7 @@ fn find_parts(tables: &RowTables<'_>, w: u32) -> Option<TokenParts>
         return Some(TokenParts { left: w, right: w });
     }
     let mut left = tables.prefixes[row];
+    // Kept: C interface: the tables that callers lend say none by a number.
     while left != NONE {
         if let Some(right) = right_part(tables, w, left) {
             return Some(TokenParts { left, right });
@@ -137,17 +138,17 @@ fn mark_seam(rows: &Rows<'_>, area: &mut [u32], w: usize, left: u32)
 }
 
 // Writes the parts of the rows into the tables, marks the pairs and the seams of the longer ones in the search area,
-// and says which row is the lowest without parts, n where all have parts.
+// and says which row is the lowest without parts, if one has none.
 pub fn fill_parts(
     rows: &Rows<'_>,
     lefts: &mut [u32],
     rights: &mut [u32],
     prefixes: &[u32],
     area: &mut [u32],
-) -> usize
+) -> Option<usize>
     requires { let r = rows.now in PartsFit r.file.now r.places.now lefts.old rights.old
         prefixes.now area.old r.n }
-    ensures { PartsFilled rows.now.file.now lefts.old rights.old area.old
+    ensures { FilledUpTo rows.now.file.now lefts.old rights.old area.old
         lefts.new rights.new area.new rows.now.n result }
 {
     empty_pairs(area);
@@ -160,10 +161,10 @@ pub fn fill_parts(
             area,
         };
         let Some(parts) = find_parts(&tables, w as u32) else {
-            return w;
+            return Some(w);
         };
         write_parts(lefts, rights, area, w, parts.left, parts.right);
         mark_seam(rows, area, w, parts.left);
     }
-    rows.n
+    None
 }

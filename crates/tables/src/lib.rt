@@ -19,18 +19,18 @@ pub use row_tables::RowTables;
 pub use tables::Tables;
 
 // Whether the places match the file; if so, sizes gets the lengths of the rows.
-fn places_match(file: &[u8], places: &[u32], n: usize, sizes: &mut [u8; 4096]) -> bool
-    requires { Passed file.now places.now n sizes.old }
-    ensures { PlacesMatch file.now places.now n sizes.new result }
+fn places_match(tables: &Tables<'_>, n: usize, sizes: &mut [u8; 4096]) -> bool
+    requires { Passed tables.now.file.now tables.now.places.now n sizes.old }
+    ensures { PlacesMatch tables.now.file.now tables.now.places.now n sizes.new result }
 {
     let mut at = 0;
     for row in 0..n {
         // The length byte is read at the table's place, so that no read has to wait for the one before it.
-        let place = places[row] as usize;
-        if file.len() <= place + 2 {
+        let place = tables.places[row] as usize;
+        if tables.file.len() <= place + 2 {
             return false;
         }
-        let size = file[place + 2];
+        let size = tables.file[place + 2];
         if place != at {
             return false;
         }
@@ -47,6 +47,7 @@ fn prefix_in_form(sizes: &[u8; 4096], n: usize, i: usize, p: u32) -> bool
 {
     let prefix = p as usize;
     if n <= prefix {
+        // Kept: C interface: the tables that callers lend say none by a number.
         return p == NONE;
     }
     sizes[prefix] < sizes[i]
@@ -75,16 +76,16 @@ fn parts_in_form(sizes: &[u8; 4096], i: usize, l: u32, r: u32) -> bool
 }
 
 // Whether prefix and parts of each row are in form.
-fn rows_fit(sizes: &[u8; 4096], lefts: &[u32], rights: &[u32], prefixes: &[u32], n: usize) -> bool
-    requires { Room n lefts.now rights.now prefixes.now }
-    ensures { result ≡ all_below n (row_in_form n (sized sizes.now) lefts.now
-        rights.now prefixes.now) }
+fn rows_fit(sizes: &[u8; 4096], tables: &Tables<'_>, n: usize) -> bool
+    requires { let t = tables.now in Room n t.lefts.now t.rights.now t.prefixes.now }
+    ensures { let t = tables.now in result ≡ all_below n (row_in_form n (sized sizes.now)
+        t.lefts.now t.rights.now t.prefixes.now) }
 {
     for i in 0..n {
-        if !parts_in_form(sizes, i, lefts[i], rights[i]) {
+        if !parts_in_form(sizes, i, tables.lefts[i], tables.rights[i]) {
             return false;
         }
-        if !prefix_in_form(sizes, n, i, prefixes[i]) {
+        if !prefix_in_form(sizes, n, i, tables.prefixes[i]) {
             return false;
         }
     }
@@ -112,10 +113,10 @@ pub fn in_form<'a>(tables: &Tables<'a>) -> Option<RowTables<'a>>
         return None;
     }
     let mut sizes = [0; 4096];
-    if !places_match(tables.file, tables.places, n, &mut sizes) {
+    if !places_match(tables, n, &mut sizes) {
         return None;
     }
-    if !rows_fit(&sizes, tables.lefts, tables.rights, tables.prefixes, n) {
+    if !rows_fit(&sizes, tables, n) {
         return None;
     }
     let rows = Rows {

@@ -20,9 +20,11 @@ shape_of-scratch-then-has g c =
 
 pub returns-then-has : goal.returns-then-has
 returns-then-has g c =
-    let l = c.loop-row in
-    found_at _ _ _ _ _ _ c.requires c.empty.ensures l.invariant _ _
-    (stops _ _ _ _ _ _ _ _ _ l.invariant c.bytes_of-bytes.ensures c.hash_bytes-hash.ensures c.has.ensures _ (omega arith) c.if-has.true)
+    let l = c.loop-row in (
+      found_at _ _ _ _ _ _ c.requires c.empty.ensures l.invariant _ _
+          (stops _ _ _ _ _ _ _ _ _ l.invariant c.bytes_of-bytes.ensures c.hash_bytes-hash.ensures c.has.ensures _ (omega arith) c.if-has.true),
+      omega arith,
+    )
 
 pub push-requires : goal.push-requires
 push-requires g c =

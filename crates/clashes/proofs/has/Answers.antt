@@ -9,8 +9,7 @@ use Rattle.clashes.proofs.has.Goals as goal
 
 pub loop-at-init : goal.loop-at-init
 loop-at-init g c =
-    let s = c in
-    (omega arith, ap (listed _ _ _) (c.wide-at.ensures.is ∙ ap (λ (b : ℕ). get_or c.args.scratch.now b 0) c.bucket.ensures.is))
+    (omega arith, ap (listed _ _ _) (ap (λ (b : ℕ). get_or c.args.scratch.now b 0) c.bucket.ensures.is))
 
 pub returns-then-is_sought : goal.returns-then-is_sought
 returns-then-is_sought g c =
@@ -20,7 +19,7 @@ returns-then-is_sought g c =
 pub loop-at-preserved : goal.loop-at-preserved
 loop-at-preserved g c =
     let l = c.loop-at in
-    (omega arith, ap (listed _ _ _) c.wide-at-in-loop-at.ensures.is ∙ sym (listed-on _ _ l.below l.at c.loop-at-test.true (sym c.is_sought.ensures ∙ c.if-is_sought.false)) ∙ l.invariant.1)
+    (omega arith, sym (listed-on _ _ l.below l.at c.loop-at-test.true (sym c.is_sought.ensures ∙ c.if-is_sought.false)) ∙ l.invariant.1)
 
 pub returns : goal.returns
 returns g c = let l = c.loop-at in sym (listed_out _ _ l.below l.at c.loop-at-test.false) ∙ l.invariant.1

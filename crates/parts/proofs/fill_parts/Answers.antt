@@ -17,7 +17,7 @@ pub find_parts-requires : goal.find_parts-requires
 find_parts-requires c = record { looking = filling_looks _ _ _ _ _ _ _ (fit-kept _ _ _ _ _ _ c.empty_pairs.ensures.kept _ _ c.requires) _ _ _ _ c.loop-w.invariant (omega arith); prefixes_found = c.requires.prefixes_found }
 
 pub returns-in_default : goal.returns-in_default
-returns-in_default c = filled-kept _ _ _ _ _ _ c.empty_pairs.ensures.kept _ _ _ _ (filling_stops _ _ _ _ _ _ _ (fit-kept _ _ _ _ _ _ c.empty_pairs.ensures.kept _ _ c.requires) _ _ _ _ c.loop-w.invariant (omega arith) c.in_default.ensures)
+returns-in_default c = (filled-kept _ _ _ _ _ _ c.empty_pairs.ensures.kept _ _ _ _ (filling_stops _ _ _ _ _ _ _ (fit-kept _ _ _ _ _ _ c.empty_pairs.ensures.kept _ _ c.requires) _ _ _ _ c.loop-w.invariant (omega arith) c.in_default.ensures), omega arith)
 
 pub write_parts-requires : goal.write_parts-requires
 write_parts-requires c = filling_writes _ _ _ _ _ _ _ (fit-kept _ _ _ _ _ _ c.empty_pairs.ensures.kept _ _ c.requires) _ _ _ _ c.loop-w.invariant _ _ (omega arith) c.in-Some.ensures

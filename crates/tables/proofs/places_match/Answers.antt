@@ -10,8 +10,8 @@ use Rattle.tables.proofs.places_match.Goals as goal
 pub loop-row-init : goal.loop-row-init
 loop-row-init c = match_start _ _ _ _ c.requires
 
-pub returns-then-file-place : goal.returns-then-file-place
-returns-then-file-place c =
+pub returns-then-tables-place : goal.returns-then-tables-place
+returns-then-tables-place c =
     let below : c.loop-row.row < c.args.n = omega arith in
     let r = next_row _ _ _ _ c.requires _ _ _ c.loop-row.invariant (below) in
     match_fails _ _ _ _ c.requires _ _ _ c.loop-row.invariant (below) _ (λ e. omega (arith, r.inside))
@@ -27,18 +27,18 @@ bounds-sizes-row c = let a = accepted _ _ c.requires.passed in omega (arith, a.m
 pub overflow_add-at-in-loop-row : goal.overflow_add-at-in-loop-row
 overflow_add-at-in-loop-row c =
     let below : c.loop-row.row < c.args.n = omega arith in
-    let turn : Matching c.args.file.now c.args.places.now c.args.n
-    (set c.loop-row.sizes c.loop-row.row (get_or c.args.file.now (get_or c.args.places.now c.loop-row.row 0 + 2) 0))
-    (c.loop-row.at + 3 + get_or c.args.file.now (get_or c.args.places.now c.loop-row.row 0 + 2) 0) (c.loop-row.row + 1) = match_more _ _ _ _ c.requires _ _ _ c.loop-row.invariant (below)
+    let turn : Matching c.args.tables.now.file.now c.args.tables.now.places.now c.args.n
+    (set c.loop-row.sizes c.loop-row.row (get_or c.args.tables.now.file.now (get_or c.args.tables.now.places.now c.loop-row.row 0 + 2) 0))
+    (c.loop-row.at + 3 + get_or c.args.tables.now.file.now (get_or c.args.tables.now.places.now c.loop-row.row 0 + 2) 0) (c.loop-row.row + 1) = match_more _ _ _ _ c.requires _ _ _ c.loop-row.invariant (below)
     _ _ refl c.if-place-at.false refl in
     omega (arith, (turn).inside)
 
 pub loop-row-preserved : goal.loop-row-preserved
 loop-row-preserved c =
     let below : c.loop-row.row < c.args.n = omega arith in
-    let turn : Matching c.args.file.now c.args.places.now c.args.n
-    (set c.loop-row.sizes c.loop-row.row (get_or c.args.file.now (get_or c.args.places.now c.loop-row.row 0 + 2) 0))
-    (c.loop-row.at + 3 + get_or c.args.file.now (get_or c.args.places.now c.loop-row.row 0 + 2) 0) (c.loop-row.row + 1) = match_more _ _ _ _ c.requires _ _ _ c.loop-row.invariant (below)
+    let turn : Matching c.args.tables.now.file.now c.args.tables.now.places.now c.args.n
+    (set c.loop-row.sizes c.loop-row.row (get_or c.args.tables.now.file.now (get_or c.args.tables.now.places.now c.loop-row.row 0 + 2) 0))
+    (c.loop-row.at + 3 + get_or c.args.tables.now.file.now (get_or c.args.tables.now.places.now c.loop-row.row 0 + 2) 0) (c.loop-row.row + 1) = match_more _ _ _ _ c.requires _ _ _ c.loop-row.invariant (below)
     _ _ refl c.if-place-at.false refl in
     turn
 

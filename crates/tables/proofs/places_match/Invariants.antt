@@ -3,4 +3,4 @@ use Rattle.tables.proofs.Matching.{Matching}
 use Rattle.tables.proofs.places_match.Given as goal
 
 abbrev pub invariant-loop-row : goal.invariant-loop-row
-invariant-loop-row l = Matching l.file l.places l.n l.sizes l.at l.row
+invariant-loop-row l = Matching l.tables.file.now l.tables.places.now l.n l.sizes l.at l.row

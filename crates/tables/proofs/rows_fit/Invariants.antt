@@ -6,4 +6,4 @@ use Rattle.tables.specs.Steps.{sized}
 use Rattle.tables.proofs.rows_fit.Given as goal
 
 abbrev pub invariant-loop-i : goal.invariant-loop-i
-invariant-loop-i l = all_below l.i (row_in_form l.n (sized l.sizes) l.lefts l.rights l.prefixes) ≡ true
+invariant-loop-i l = all_below l.i (row_in_form l.n (sized l.sizes) l.tables.lefts.now l.tables.rights.now l.tables.prefixes.now) ≡ true

@@ -1,8 +1,8 @@
 -- What loading a phrase file answers.
-use Rattle.std.specs.Prelude.{◌≡◌, ℕ, ◌≤◌}
-use Rattle.file_commands.specs.declared.loading.Loaded.{Loaded}
-use Rattle.file_commands.specs.declared.loading.Loaded.TheVariants.{Size}
+use Rattle.std.specs.Prelude.{◌≤◌, Result, IfOk, vec_len}
+use Rattle.tool_io.specs.declared.answers.Stop.{Stop}
+use Rattle.file_commands.specs.declared.loading.Dictionary.{Dictionary}
 
 -- a file that was loaded has at most 65,536 bytes
-pub record Loads (r : Loaded) : Type 0 where
-  pub fits : (size : ℕ) → r ≡ Size size → size ≤ 65536
+pub record Loads (r : Result Dictionary Stop) : Type 0 where
+  pub fits : IfOk r (λ loaded. vec_len loaded.file ≤ 65536)

@@ -8,7 +8,7 @@ use lib.ListN.{length}
 use lib.Dec.{ltb}
 use borrow.Author.Tests.{ltb-false}
 use Rattle.causes.specs.declared.Cause.TheVariants.{OutOfForm}
-use Rattle.tables.specs.declared.Form.{Form}
+use Rattle.std.specs.Prelude.{Option}
 use Rattle.causes.specs.Order.{other_order, when}
 use Rattle.causes.proofs.None.{AllFail, none-applies, neither}
 use Rattle.tables.specs.Tables.{Tables}
@@ -19,7 +19,7 @@ use Rattle.typing_columns.specs.Refusals.{head_out, any_out, extend_conditions, 
 pub head-fits : (len size : ℕ) → head_out len size ≡ false → (len ≤ size) × (len ≤ 4096)
 head-fits len size e = let both = neither (ltb size len) (ltb 4096 len) e in (ltb-false size len both.0, ltb-false 4096 len both.1)
 
-any_in : (form : Form) (len size : ℕ) (fine : Bool) → any_out form len size fine ≡ false → head_out len size ≡ false
+any_in : (form : Option ℕ) (len size : ℕ) (fine : Bool) → any_out form len size fine ≡ false → head_out len size ≡ false
 any_in form len size fine e = (neither (head_out len size) (not fine) (neither (is_out form) (head_out len size || not fine) e).1).0
 
 pub counted_in : (T : Tables) (len size : ℕ) (fine : Bool) → token_count_refusal T len size fine ≡ none → head_out len size ≡ false

@@ -22,10 +22,10 @@ use Rattle.theory.proofs.Typing.{same-form, trues_form, entry_at_take}
 use Rattle.causes.specs.declared.Cause.{Cause}
 use Rattle.tables.specs.Tables.{Tables}
 use Rattle.tables.specs.InForm.{is_out, form_of}
-use Rattle.causes.specs.declared.Answer.{Answer}
-use Rattle.causes.specs.declared.Answer.TheVariants.{Number}
-use Rattle.causes.specs.Call.{saying, to_number}
-use Rattle.causes.proofs.Calls.{given-answer, answer_with}
+use Rattle.std.specs.Prelude.{Result, Ok}
+use Rattle.std.specs.Result.{is_err}
+use Rattle.causes.specs.Call.{to_number}
+use Rattle.causes.proofs.Calls.{given-answer, refused-answer}
 use Rattle.tables.proofs.Sweeps.{each_all}
 use Rattle.built_tables.specs.Built.{dictionary_of, Built}
 use Rattle.built_tables.proofs.Rows.{lawful-is, known}
@@ -38,7 +38,7 @@ use Rattle.typing.specs.Records.{no_state, entry_of, bytes_of, codes_of, counts_
 use Rattle.typing.specs.Steps.{end_after}
 use Rattle.typing.specs.Calls.{Extended, TokenCounted}
 use Rattle.typing.specs.Text.{TextTyped}
-use Rattle.typing.proofs.Ending.{head_in, end_refused, end-given}
+use Rattle.typing.proofs.Ending.{head_in}
 use Rattle.typing.proofs.Refusals.{Extends, extends, tables_in}
 
 -- the first i records are those of the text
@@ -117,14 +117,14 @@ module _ (T : Tables) (n : ℕ) (B : Built T n) (side : Side) (text : List ℕ) 
     counts fine form = rw (is_in_form T n B, fine-is fine form, head-is)
 
     -- it gives the count of the text so far
-    count_is : (k : ℕ) → i ≡ suc k → (r : Answer) → TokenCounted T side len states r → r ≡ Number (count_at D side text k)
+    count_is : (k : ℕ) → i ≡ suc k → (r : Result ℕ Cause) → TokenCounted T side len states r → r ≡ Ok (count_at D side text k)
     count_is k e r c =
         given-answer to_number c.call (counts c.fine c.form)
-        ∙ ap Number (c.call.given (counts c.fine c.form) ∙ ap (last_count (counts_of states)) (S.len_is ∙ e)
+        ∙ ap Ok (c.call.given (counts c.fine c.form) ∙ ap (last_count (counts_of states)) (S.len_is ∙ e)
         ∙ count_at_lem D side text i len states S k (omega (arith, e)))
 
     -- the records of the next bytes of the text
-    longer : (typed : List ℕ) (r : Answer) (len' : ℕ) (states' : List State) (X : Extended T side len states typed r len' states')
+    longer : (typed : List ℕ) (r : Result ℕ Cause) (len' : ℕ) (states' : List State) (X : Extended T side len states typed r len' states')
         → typed ≡ take (length typed) (drop i text) → i + length typed ≤ 4096 → Standing D side text (i + length typed) len' states'
     longer typed r len' states' X is room = record {
       len_is = (X.call.given free).longer ∙ ap (λ (k : ℕ). k + length typed) S.len_is;
@@ -175,25 +175,20 @@ module _ (T : Tables) (side : Side) (text counts₀ : List ℕ) where
         → TextTyped T side text counts₀ i counts
     ends e = record { at_most = omega (arith, K); out_of_form = K.out_of_form; size_kept = K.size_kept; beyond_kept = K.beyond_kept; typed = e; counted = K.counted }
 
-    module _ (b : ℕ) (r : Answer) (len' : ℕ) (states' : List State) (X : Extended T side len states (b ∷ []) r len' states') where
+    module _ (b : ℕ) (r : Result ℕ Cause) (len' : ℕ) (states' : List State) (X : Extended T side len states (b ∷ []) r len' states') where
       abbrev refusal : Option Cause
       refusal = extend_refusal T len (length states) X.fine (b ∷ [])
 
-      answer : r ≡ saying to_number refusal (len + 1)
-      answer = answer_with to_number X.call (len + 1) (λ o. (X.call.given o).number_is)
-
       -- no record is left
-      pub ends-full : end_after r i ≡ i → TextTyped T side text counts₀ i counts
+      pub ends-full : is_err r ≡ true → TextTyped T side text counts₀ i counts
       ends-full e = ends (λ n B.
           let S = K.standing n B in
-          ⊎_elim (λ (h : i < 4096). absurd (let
-          more : end_after r i ≡ len + 1 = ap (λ (a : Answer). end_after a i) answer
-          ∙ end-given refusal (len + 1) i
-          (passes T n B side text i len states octets S K.slice K.text_fits (b ∷ []) X.fine X.form (omega (arith, h)))
-          in omega (arith, e, more, S.len_is))) (λ h. omega (arith, K, S.few, h)) (lt_or_ge i 4096))
+          ⊎_elim (λ (h : i < 4096).
+          let free = passes T n B side text i len states octets S K.slice K.text_fits (b ∷ []) X.fine X.form (omega (arith, h)) in
+          absurd (true-false (sym e ∙ ap is_err (given-answer to_number X.call free)))) (λ h. omega (arith, K, S.few, h)) (lt_or_ge i 4096))
 
       -- one byte more, where the push was not refused
-      pub more : b ≡ get_or text i 0 → i < length text → i < length counts₀ → (end_after r i ≡ i → ⊥) → (q : Answer) → TokenCounted T side len' states' q
+      pub more : b ≡ get_or text i 0 → i < length text → i < length counts₀ → is_err r ≡ false → (q : Result ℕ Cause) → TokenCounted T side len' states' q
           → (v : ℕ) → v ≡ min (end_after q 0) 4294967295 → Typing T side text counts₀ (i + 1) len' states' (set counts i v)
       more is within room new q counted v entry = record {
         text_fits = omega arith;
@@ -215,7 +210,7 @@ module _ (T : Tables) (side : Side) (text counts₀ : List ℕ) where
           free = go refusal refl where
             go : (o : Option Cause) → refusal ≡ o → refusal ≡ none
             go none e = e
-            go (some cause) e = absurd (new (ap (λ (a : Answer). end_after a i) answer ∙ end_refused refusal (len + 1) i cause e))
+            go (some cause) e = absurd (true-false (sym (ap is_err (refused-answer to_number X.call e)) ∙ new))
 
           fits : Extends len (length states) (b ∷ [])
           fits = extends T len (length states) X.fine (b ∷ []) free
@@ -230,5 +225,5 @@ module _ (T : Tables) (side : Side) (text counts₀ : List ℕ) where
               let S = stands n B in
               let few = S.few in
               let is-count = count_is T n B side text (i + 1) len' states' octets S (X.size_kept ∙ K.slice) (omega arith) i (add-one i) q counted in
-              let end : end_after q 0 ≡ count_at (dictionary_of file) side text i = ap (λ (a : Answer). end_after a 0) is-count in
+              let end : end_after q 0 ≡ count_at (dictionary_of file) side text i = ap (λ (a : Result ℕ Cause). end_after a 0) is-count in
               omega (arith, entry, end, count_small T n B side text i)

@@ -1,9 +1,9 @@
 -- What the typing calls answer, and what they leave in the head and in the records: document 01, "Typing and
 -- intervals".
-use Rattle.std.specs.Prelude.{◌≡◌, List, ◌++◌, Bool, ℕ, ◌+◌, ◌<◌, min, length, get_or, take, drop}
+use Rattle.std.specs.Prelude.{◌≡◌, List, ◌++◌, Bool, ℕ, ◌+◌, ◌<◌, min, length, get_or, take, drop, Result}
 use Rattle.theory.specs.Typing as Typing
 use Rattle.tables.specs.Tables.{Tables}
-use Rattle.causes.specs.declared.Answer.{Answer}
+use Rattle.causes.specs.declared.Cause.{Cause}
 use Rattle.causes.specs.Call.{Call, to_number, no_buffer}
 use Rattle.built_tables.specs.Built.{dictionary_of, Built}
 use Rattle.typing_columns.specs.Refusals.{extend_refusal, token_count_refusal, truncate_refusal}
@@ -28,7 +28,7 @@ module _ (T : Tables) (side : Typing.Side) where
 
   -- push (with the one byte as `typed`) and extend: a refusal changes nothing; only the records added and the head's
   -- length are written
-  pub record Extended (len : ℕ) (states : List State) (typed : List ℕ) (r : Answer) (len' : ℕ)
+  pub record Extended (len : ℕ) (states : List State) (typed : List ℕ) (r : Result ℕ Cause) (len' : ℕ)
       (states' : List State) : Type 0 where
     pub fine : Bool
     pub form : FormOf T side len (length states) (bytes_of states) (codes_of states) (counts_of states) fine
@@ -39,7 +39,7 @@ module _ (T : Tables) (side : Typing.Side) where
     pub beyond_kept : drop len' states' ≡ drop len' states
 
   -- `token_count`: the last record's count, 0 at length 0
-  pub record TokenCounted (len : ℕ) (states : List State) (r : Answer) : Type 0 where
+  pub record TokenCounted (len : ℕ) (states : List State) (r : Result ℕ Cause) : Type 0 where
     pub fine : Bool
     pub form : FormOf T side len (length states) (bytes_of states) (codes_of states) (counts_of states) fine
     pub call : Call to_number (token_count_refusal T len (length states) fine) no_buffer
@@ -47,7 +47,7 @@ module _ (T : Tables) (side : Typing.Side) where
 
 -- truncate: the head's length, if it is in form, becomes the lesser of it and what is to be kept, and that is the
 -- answer. `size` is the number of records of the slice
-abbrev pub Truncated : (len size keep : ℕ) → Answer → (len' : ℕ) → Type 0
+abbrev pub Truncated : (len size keep : ℕ) → Result ℕ Cause → (len' : ℕ) → Type 0
 Truncated len size keep r len' =
     Call to_number (truncate_refusal len size) (λ cause. len' ≡ len)
     (λ number. (number ≡ min len keep) × (len' ≡ min len keep)) r

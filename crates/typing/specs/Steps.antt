@@ -1,7 +1,6 @@
 -- What the steps of a typing call hand over: the records copied into columns, and the columns stored as records.
-use Rattle.std.specs.Prelude.{◌≡◌, List, cond, ℕ, ◌<◌, ◌≤◌, length, get_or, take, drop}
-use Rattle.causes.specs.declared.Answer.{Answer}
-use Rattle.causes.specs.declared.Answer.TheVariants.{Number, Refused}
+use Rattle.std.specs.Prelude.{◌≡◌, List, cond, ℕ, ◌<◌, ◌≤◌, length, get_or, take, drop, Result, Ok, Err}
+use Rattle.causes.specs.declared.Cause.{Cause}
 use Rattle.typing_columns.specs.Refusals.{head_out}
 use Rattle.typing.specs.declared.State.{State}
 use Rattle.typing.specs.Records.{no_state, bytes_of, codes_of, counts_of}
@@ -11,9 +10,9 @@ unfoldable pub usable_of : ℕ → ℕ → ℕ
 usable_of len size = cond (head_out len size) 0 len
 
 -- the head's length after a call with this answer: a refusal leaves it
-abbrev pub end_after : Answer → ℕ → ℕ
-end_after (Number end) len = end
-end_after (Refused cause) len = len
+abbrev pub end_after : Result ℕ Cause → ℕ → ℕ
+end_after (Ok end) len = end
+end_after (Err cause) len = len
 
 abbrev pub state_of : ℕ → ℕ → ℕ → State
 state_of b c k = record { byte = b; code = c; count = k }

@@ -5,7 +5,7 @@ use mathlib.Core.List.{List, [], ◌∷◌, ◌++◌, append_assoc, append-nil}
 use Prim.Native.Nat.{ℕ, zero, suc, ◌+◌, ◌-◌, ◌≤◌, ◌<◌}
 use native.Mathlib.Nat.{eq-or-lt_of_le}
 use native.Mathlib.Omega.{arith}
-use lib.ListN.{length, length-append, length-drop, get_or, set, take, drop, take-append-drop, get_or-append}
+use lib.ListN.{length, length-append, get_or, set, take, get_or-append}
 use lib.Seq.{length-take-le, take-suc, take-length, get_or_at, set_at}
 use Rattle.theory.specs.Dictionary.{Dictionary, none, Octets}
 use Rattle.theory.specs.Merge.{encode}
@@ -16,18 +16,22 @@ use Rattle.built_tables.proofs.Rows.{lawful-is, known}
 use Rattle.end_code.specs.Tables.{RowReady, RowsTo}
 use Rattle.table_encoder.specs.LastCodes.{LastCodesTo}
 use Rattle.table_encoder.specs.Walk.{walked, WalkReady, WriteReady}
-use Rattle.end_code.proofs.Sizes.{any_default, row-some}
+use Rattle.end_code.proofs.Sizes.{row-some}
+use Rattle.std.proofs.lemmas.List.{get_or_default}
 use Rattle.tables.specs.Tables.{Tables}
 
-module _ (file places : List ℕ) (n : ℕ) (table : List ℕ) (m : ℕ) (R : WalkReady file places n table m) where
+module _ (file places : List ℕ) (n : ℕ) (table : List ℕ) (R : WalkReady file places n table) where
   abbrev D : Dictionary
   D = dictionary_of file
 
+  abbrev m : ℕ
+  m = length table
+
   entry : (e : ℕ) → e < m → get_or table e none ≡ get_or table e 0
-  entry e h = any_default table e none 0 (omega (arith, R.before.room))
+  entry e h = get_or_default table e none 0 h
 
   pub walk-row : (e : ℕ) → e < m → RowReady file places n (get_or table e 0)
-  walk-row e h = record { places_ready = R.places_ready; row = R.before.rows e h }
+  walk-row e h = record { places_ready = R.places_ready; row = R.rows e h }
 
   -- fuel of one for each byte is enough
   same-walk : (k k' e : ℕ) → e ≤ k → e ≤ k' → e ≤ m → walk_back D k table e ≡ walk_back D k' table e
@@ -42,17 +46,16 @@ module _ (file places : List ℕ) (n : ℕ) (table : List ℕ) (m : ℕ) (R : Wa
       let some : 0 < length (D.bytes c) = rw (entry e l) (row-some file places n (get_or table e 0) (walk-row e l)) in
       ap (λ (L : List ℕ). L ++ c ∷ []) (same-walk k k' (suc e - length (D.bytes c)) (omega arith) (omega arith) (omega arith))
 
-  walked_none : walked file table 0 ≡ []
-  unfolding walked
-  walked_none = refl
+  -- the codes of the first pos bytes
+  abbrev pub front : ℕ → List ℕ
+  front pos = walk_back D pos table pos
 
   -- one step of the walk
   pub record Step (pos c next : ℕ) : Type 0 where
     pub falls : next < pos
-    pub codes : walked file table pos ≡ walked file table next ++ c ∷ []
+    pub codes : front pos ≡ front next ++ c ∷ []
 
   pub walked_step : (pos next : ℕ) → 0 < pos → pos ≤ m → next ≡ pos - length (D.bytes (get_or table (pos - 1) 0)) → Step pos (get_or table (pos - 1) 0) next
-  unfolding walked
   walked_step zero next h l e = absurd (omega arith)
   walked_step (suc p) next h l e =
       let z : suc p - 1 ≡ p = omega arith in
@@ -73,7 +76,7 @@ module _ (file places : List ℕ) (n : ℕ) (table : List ℕ) (m : ℕ) (R : Wa
       let h = back-few k (suc e - length (D.bytes c)) in
       omega (arith, length-append (walk_back D k table (suc e - length (D.bytes c))) (c ∷ []))
 
-  pub walked-few : length (walked file table m) ≤ m
+  pub walked-few : length (walked file table) ≤ m
   unfolding walked
   walked-few = back-few m m
 
@@ -88,124 +91,127 @@ module _ (file places : List ℕ) (n : ℕ) (table : List ℕ) (m : ℕ) (R : Wa
   back-rows (suc k) zero l = λ j h. absurd (omega arith)
   back-rows (suc k) (suc e) l =
       let c : ℕ = get_or table e none in
-      row_last (walk_back D k table (suc e - length (D.bytes c))) c (back-rows k (suc e - length (D.bytes c)) (omega arith)) (rw (entry e l) (R.before.rows e l))
+      row_last (walk_back D k table (suc e - length (D.bytes c))) c (back-rows k (suc e - length (D.bytes c)) (omega arith)) (rw (entry e l) (R.rows e l))
 
-  pub walked-rows : RowsTo n (walked file table m) (length (walked file table m))
+  pub walked-rows : RowsTo n (walked file table) (length (walked file table))
   unfolding walked
   walked-rows = back-rows m m (omega arith)
 
-module _ (file places : List ℕ) (n : ℕ) (table : List ℕ) (m : ℕ) where
+module _ (file places : List ℕ) (n : ℕ) (table : List ℕ) where
   -- `count` codes are behind pos
   pub record Counting (count pos : ℕ) : Type 0 where
-    pub ready : WalkReady file places n table m
-    pub within : pos ≤ m
-    pub total : count + length (walked file table pos) ≡ length (walked file table m)
+    pub ready : WalkReady file places n table
+    pub within : pos ≤ length table
+    pub total : count + length (front file places n table ready pos) ≡ length (walked file table)
 
-  pub counting-start : WalkReady file places n table m → Counting 0 m
+  pub counting-start : WalkReady file places n table → Counting 0 (length table)
+  unfolding walked
   counting-start R = record { ready = R; within = omega arith; total = omega arith }
 
   module _ (count pos : ℕ) (C : Counting count pos) where
-    pub counting-fits : count ≤ m
-    counting-fits = omega (arith, C.total, walked-few file places n table m C.ready)
+    pub counting-fits : count ≤ length table
+    counting-fits = omega (arith, C.total, walked-few file places n table C.ready)
 
-    pub counting-end : pos ≤ 0 → count ≡ length (walked file table m)
+    pub counting-end : pos ≤ 0 → count ≡ length (walked file table)
     counting-end h =
         let e : pos ≡ 0 = omega arith in
-        omega (arith, C.total, ap (λ (p : ℕ). length (walked file table p)) e, ap length (walked_none file places n table m C.ready))
+        omega (arith, C.total, ap (λ (p : ℕ). length (front file places n table C.ready p)) e)
 
     pub counting_more : (next : ℕ) → 0 < pos → next ≡ pos - length ((dictionary_of file).bytes (get_or table (pos - 1) 0)) → (next < pos) × Counting (count + 1) next
     counting_more next h e =
-        let s = walked_step file places n table m C.ready pos next h C.within e in
+        let s = walked_step file places n table C.ready pos next h C.within e in
         let f = s.falls in (
           f,
           record {
             ready = C.ready;
             within = omega (arith, C.within);
-            total = omega (arith, C.total, ap length s.codes, length-append (walked file table next) (get_or table (pos - 1) 0 ∷ []));
+            total = omega (arith, C.total, ap length s.codes, length-append (front file places n table C.ready next) (get_or table (pos - 1) 0 ∷ []));
           },
         )
 
-  module _ (count : ℕ) (out₀ : List ℕ) where
+  module _ (out₀ : List ℕ) where
     -- the codes behind pos are written, from `at` on
     pub record Writing (at pos : ℕ) (out : List ℕ) : Type 0 where
-      pub ready : WriteReady file places n table m count out₀
-      pub within : pos ≤ m
-      pub at_is : at ≡ length (walked file table pos)
+      pub ready : WriteReady file places n table out₀
+      pub within : pos ≤ length table
+      pub at_is : at ≡ length (front file places n table ready.walk pos)
       pub rest : List ℕ
-      pub whole : walked file table m ≡ walked file table pos ++ rest
-      pub is : out ≡ take at out₀ ++ (rest ++ drop count out₀)
+      pub whole : walked file table ≡ front file places n table ready.walk pos ++ rest
+      pub is : out ≡ take at out₀ ++ rest
 
-    pub writing_start : WriteReady file places n table m count out₀ → Writing count m out₀
+    pub writing_start : WriteReady file places n table out₀ → Writing (length out₀) (length table) out₀
+    unfolding walked
     writing_start Q = record {
       ready = Q;
       within = omega arith;
       at_is = Q.count_is;
       rest = [];
-      whole = sym (append-nil (walked file table m));
-      is = sym (take-append-drop count out₀);
+      whole = sym (append-nil (walked file table));
+      is = sym (append-nil (take (length out₀) out₀) ∙ take-length out₀);
     }
 
     module _ (at pos : ℕ) (out : List ℕ) (S : Writing at pos out) where
-      sizes : at + length S.rest ≡ count
-      sizes = omega (arith, S.at_is, S.ready.count_is, ap length S.whole, length-append (walked file table pos) S.rest)
+      abbrev before : ℕ → List ℕ
+      before = front file places n table S.ready.walk
+
+      sizes : at + length S.rest ≡ length out₀
+      sizes = omega (arith, S.at_is, S.ready.count_is, ap length S.whole, length-append (before pos) S.rest)
 
       pub writing_length : length out ≡ length out₀
       writing_length =
           let z = sizes in
-          let room = S.ready.room in
-          ap length S.is ∙ simp (length-append, length-drop, length-take-le at out₀ (omega arith)) (omega arith)
+          ap length S.is ∙ simp (length-append, length-take-le at out₀ (omega arith)) (omega arith)
 
-      pub writing_end : pos ≤ 0 → out ≡ walked file table m ++ drop count out₀
+      pub writing_end : pos ≤ 0 → out ≡ walked file table
       writing_end h =
           let e : pos ≡ 0 = omega arith in
-          let none_left : walked file table pos ≡ [] = ap (walked file table) e ∙ walked_none file places n table m S.ready.walk in
+          let none_left : before pos ≡ [] = ap before e in
           let z : at ≡ 0 = S.at_is ∙ ap length none_left in
-          let all : walked file table m ≡ S.rest = S.whole ∙ ap (λ (L : List ℕ). L ++ S.rest) none_left in
+          let all : walked file table ≡ S.rest = S.whole ∙ ap (λ (L : List ℕ). L ++ S.rest) none_left in
           S.is ∙ rw (z, all)
 
       module _ (h : 0 < pos) where
         abbrev code : ℕ
         code = get_or table (pos - 1) 0
 
-        abbrev before : ℕ
-        before = pos - length ((dictionary_of file).bytes code)
+        abbrev next_pos : ℕ
+        next_pos = pos - length ((dictionary_of file).bytes code)
 
-        step : Step file places n table m S.ready.walk pos code before
-        step = walked_step file places n table m S.ready.walk pos before h S.within refl
+        step : Step file places n table S.ready.walk pos code next_pos
+        step = walked_step file places n table S.ready.walk pos next_pos h S.within refl
 
         -- one place is left for the code, in the output
-        pub writing_place : (at ≡ length (walked file table before) + 1) × (at ≤ length out)
+        pub writing_place : (at ≡ length (before next_pos) + 1) × (at ≤ length out)
         writing_place = (
-          omega (arith, S.at_is, ap length step.codes, length-append (walked file table before) (code ∷ [])),
-          omega (arith, sizes, writing_length, S.ready.room),
+          omega (arith, S.at_is, ap length step.codes, length-append (before next_pos) (code ∷ [])),
+          omega (arith, sizes, writing_length),
         )
 
-        pub writing_more : (next : ℕ) → next ≡ before → (next < pos) × Writing (at - 1) next (set out (at - 1) code)
+        pub writing_more : (next : ℕ) → next ≡ next_pos → (next < pos) × Writing (at - 1) next (set out (at - 1) code)
         writing_more next e =
             let f = step.falls in
             let w = writing_place in
             let l = writing_length in
             let z : suc (at - 1) ≡ at = omega arith in
             let old : ℕ = get_or out₀ (at - 1) 0 in
-            let behind : List ℕ = S.rest ++ drop count out₀ in
-            let front : take at out₀ ≡ take (at - 1) out₀ ++ old ∷ [] = rw z at (take-suc out₀ (at - 1) 0 (omega arith)) in
-            let split : out ≡ take (at - 1) out₀ ++ old ∷ behind = S.is ∙ ap (λ (L : List ℕ). L ++ behind) front ∙ append_assoc (take (at - 1) out₀) (old ∷ []) behind in (
+            let front_is : take at out₀ ≡ take (at - 1) out₀ ++ old ∷ [] = rw z at (take-suc out₀ (at - 1) 0 (omega arith)) in
+            let split : out ≡ take (at - 1) out₀ ++ old ∷ S.rest = S.is ∙ ap (λ (L : List ℕ). L ++ S.rest) front_is ∙ append_assoc (take (at - 1) out₀) (old ∷ []) S.rest in (
               omega arith,
               record {
                 ready = S.ready;
                 within = omega (arith, S.within);
                 at_is = rw e (omega arith);
                 rest = code ∷ S.rest;
-                whole = rw e (S.whole ∙ ap (λ (L : List ℕ). L ++ S.rest) step.codes ∙ append_assoc (walked file table before) (code ∷ []) S.rest);
-                is = ap (λ (L : List ℕ). set L (at - 1) code) split ∙ set_at (take (at - 1) out₀) old behind code (at - 1) (length-take-le (at - 1) out₀ (omega arith));
+                whole = rw e (S.whole ∙ ap (λ (L : List ℕ). L ++ S.rest) step.codes ∙ append_assoc (before next_pos) (code ∷ []) S.rest);
+                is = ap (λ (L : List ℕ). set L (at - 1) code) split ∙ set_at (take (at - 1) out₀) old S.rest code (at - 1) (length-take-le (at - 1) out₀ (omega arith));
               },
             )
 
 -- behind true last codes the walk gives the codes of the merge procedure
 pub walked-codes : (T : Tables) (n : ℕ) (text table : List ℕ) → Built T n → Octets text
-    → length text ≤ length table → LastCodesTo T.file text table (length text) → walked T.file table (length text) ≡ encode (dictionary_of T.file) text
+    → length table ≡ length text → LastCodesTo T.file text table (length text) → walked T.file table ≡ encode (dictionary_of T.file) text
 unfolding walked
-walked-codes T n text table B o room agree =
-    walk_back-codes (dictionary_of T.file) (lawful-is T n B) text (known T n B text o) (length text) (length text) table (omega arith) (omega arith)
-    (λ j h. any_default table j none 0 (omega arith) ∙ agree j h)
+walked-codes T n text table B o size agree =
+    rw size (walk_back-codes (dictionary_of T.file) (lawful-is T n B) text (known T n B text o) (length text) (length text) table (omega arith) (omega arith)
+    (λ j h. get_or_default table j none 0 (omega (arith, size)) ∙ agree j h))
     ∙ ap (encode (dictionary_of T.file)) (take-length text)

@@ -5,22 +5,21 @@ use Rattle.theory.specs.Table.{walk_back}
 use Rattle.tables.specs.Tables.{PairTables, with_prefixes}
 use Rattle.tables.specs.Ready.{PlacesReady}
 use Rattle.built_tables.specs.Built.{dictionary_of, Built}
-use Rattle.end_code.specs.Tables.{RowsTo, FrontRows, PartsInForm}
+use Rattle.end_code.specs.Tables.{RowsTo, PartsInForm}
 
--- the codes of the first m bytes, walked from the end
-unfoldable pub walked : List ℕ → List ℕ → ℕ → List ℕ
-walked file table m = walk_back (dictionary_of file) m table m
+-- the codes of the bytes whose last codes are given, walked from the end
+unfoldable pub walked : List ℕ → List ℕ → List ℕ
+walked file table = walk_back (dictionary_of file) (length table) table (length table)
 
--- what the walk needs: a row in each of the first m entries of the table
-pub record WalkReady (file places : List ℕ) (n : ℕ) (table : List ℕ) (m : ℕ) : Type 0 where
+-- what the walk needs: a row in each entry of the table
+pub record WalkReady (file places : List ℕ) (n : ℕ) (table : List ℕ) : Type 0 where
   pub places_ready : PlacesReady file places n
-  pub before : FrontRows n table m
+  pub rows : RowsTo n table (length table)
 
--- what writing the codes needs besides: their count, and room for them
-pub record WriteReady (file places : List ℕ) (n : ℕ) (table : List ℕ) (m count : ℕ) (out : List ℕ) : Type 0 where
-  pub walk : WalkReady file places n table m
-  pub count_is : count ≡ length (walked file table m)
-  pub room : count ≤ length out
+-- what writing the codes needs besides: as many numbers
+pub record WriteReady (file places : List ℕ) (n : ℕ) (table out : List ℕ) : Type 0 where
+  pub walk : WalkReady file places n table
+  pub count_is : length out ≡ length (walked file table)
 
 -- what the codes of a text by the table need: output and work buffers with one number per byte
 pub record TableReady (P : PairTables) (n : ℕ) (text out work : List ℕ) : Type 0 where

@@ -3,7 +3,7 @@ use Rattle.table_encoder.proofs.Walking.{Writing}
 use Rattle.table_encoder.proofs.write_back.Given as goal
 
 abbrev pub invariant-loop-pos : goal.invariant-loop-pos
-invariant-loop-pos l = Writing l.file l.places l.n l.table l.m l.count l.initial.out l.at l.pos l.out
+invariant-loop-pos l = Writing l.rows.file.now l.rows.places.now l.rows.n l.last_codes l.initial.out l.at l.pos l.out
 
 abbrev pub decreases-loop-pos : goal.decreases-loop-pos
 decreases-loop-pos l = l.pos

@@ -11,7 +11,7 @@ use Rattle.theory.specs.Dictionary.{none}
 use Rattle.forest.specs.Words.{row_of, bucket_of, child_key, marks_from}
 use Rattle.forest.specs.Lookups.{OneLonger, ChildIs}
 use Rattle.forest.proofs.Walking.{walk_out}
-use Rattle.forest.proofs.Searching.{search_start, search_one, search_over, search_unmarked, search_empty}
+use Rattle.forest.proofs.Searching.{search_start, search_one, search_over, search_unmarked}
 
 module _ (t : List ℕ) (k : ℕ) where
   -- the byte at the place
@@ -42,6 +42,3 @@ module _ (R : ℕ → List ℕ) (n : ℕ) (area : List ℕ) (p len : ℕ) (t : L
   -- where prefix and next byte are not marked there is no child
   pub unmarked-at : (l : ℕ) → marked area marks_from (child_key p (get_or t k 0)) ≡ false → ChildIs R n area p len (drop k t) none l
   unmarked-at l e = search_unmarked R n area p len (drop k t) l (ap (λ (b : ℕ). marked area marks_from (child_key p b)) (first-at t k) ∙ e)
-
-  pub empty-at : (l : ℕ) → length t ≤ k → ChildIs R n area p len (drop k t) none l
-  empty-at l h = search_empty R n area p len (drop k t) l (omega (arith, length-drop k t))

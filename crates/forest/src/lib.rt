@@ -1,6 +1,7 @@
 // The front of the search area: the rows of a phrase file as a forest under "next shorter prefix". The bucket is a
 // multiple of the prefix's number plus the next byte, so that the byte in a word tells the prefix. Rows go in by rising
 // length, so that a row one byte longer than its prefix, first in its bucket, takes one load and one comparison.
+// Kept: slower, rows, area, text and place stand apart: a struct made for a call waits for its stores (docs/TRIALS.md).
 #![tactic(auto)]
 
 ghost use Rattle.std.specs.Prelude.{◌≡◌, true, ◌+◌, ◌-◌, ◌%◌, ◌<◌, ◌≤◌, ◌⊎◌, length, get_or, drop};
@@ -37,6 +38,7 @@ fn more_of(w: u32) -> usize
 }
 
 // The word of row c, with the tag t, which has `more` bytes beyond its prefix.
+// Kept: word (a definition) needs it: three numbers in one, since the search area has one number for a row.
 fn word_of(c: usize, t: u32, more: usize) -> u32
     requires { (c < 4096) × ((0 < more) × (more ≤ 64)) }
     ensures { result ≡ word c t more }
@@ -186,7 +188,8 @@ fn bucket_child(
     listed_child(rows, area, first, p, len, text, at)
 }
 
-// The row that is the byte b alone, where there is one: it is first in its bucket.
+// The row that is the byte b alone, where there is one, or NONE: it is first in its bucket.
+// Kept: no plainer: the row or NONE goes into a Match as it is, and ByteRow (a definition) says none so.
 pub fn byte_row(rows: &Rows<'_>, area: &[u32], b: u8) -> u32
     requires hints_in_bounds { hints ≤ length area.now }
     ensures { ByteRow (rows_of rows.now) rows.now.n area.now b result }

@@ -18,7 +18,7 @@ use Rattle.placed_rows.specs.Rows.{row}
 use Rattle.tables.specs.Tables.{PairTables}
 use Rattle.tables.specs.Ready.{PlacesReady}
 use Rattle.marks.specs.Marks.{marked}
-use Rattle.pair_check.specs.Pair.{Tells, seam_key, first_byte, last_byte, seam_at, SeamsMarked, PairReady, PairIs, PassIs}
+use Rattle.pair_check.specs.Pair.{Tells, seam_key, first_byte, last_byte, seam_at, SeamsMarked, PairReady, PassIs}
 use Rattle.pair_check.proofs.Turns.{falling}
 
 -- the bytes of two joined texts at their cut, at the end and at the front
@@ -41,9 +41,6 @@ module _ (s t : List ℕ) where
 module _ (file places : List ℕ) (n : ℕ) (Q : PlacesReady file places n) (c x : ℕ) (h : c < n) (i : x ≡ c) (s : List ℕ) (e : s ≡ row file places n x) where
   read_is : s ≡ get_or (rows file) c []
   read_is = e ∙ ap (row file places n) i ∙ Q.rows_are c h
-
-  pub read-filled : 1 ≤ length s
-  read-filled = omega (arith, ap length read_is, Q.filled c h)
 
   pub first_read : get_or s 0 0 ≡ first_byte file c
   unfolding first_byte
@@ -135,7 +132,3 @@ module _ (P : PairTables) (n q u v : ℕ) (R : PairReady P n q u v) where
   pass-unmarked b e z = record {
     passes_is = λ D T d F M S. sym (walks D T S (last_byte file u) (first_byte file v) (sym e ∙ z) (suc (u + v)) u v q R.left_below R.right_below (omega arith) (omega arith) refl refl);
   }
-
--- the pair check was asked
-pub pass-checked : (P : PairTables) (n q u v : ℕ) (r : Bool) → PairIs P n q u v r → PassIs P n q u v r
-pass-checked P n q u v r p = record { passes_is = λ D T d F M S. p.passes_is D T d F M }

@@ -1,5 +1,5 @@
 -- A turn of the pair check over tables. Assumes nothing.
-use mathlib.Core.Path.{◌≡◌, refl, sym, ◌∙◌}
+use mathlib.Core.Path.{◌≡◌, sym, ◌∙◌}
 use mathlib.Core.Logic.{◌⊎◌, inl, inr, ⊎_elim}
 use mathlib.Core.List.{List, []}
 use mathlib.Core.Bool.{Bool, true, false, ◌||◌}
@@ -18,7 +18,7 @@ use Rattle.phrase_file.specs.Form.{rows}
 use Rattle.tables.specs.Tables.{PairTables}
 use Rattle.tables.specs.Ready.{PlacesReady, PartsReady}
 use Rattle.search_area.specs.Area.{Finds}
-use Rattle.pair_check.specs.Pair.{Distinct, Tells, PairsMarked, PairReady, JoinReady, JoinIs, PairIs}
+use Rattle.pair_check.specs.Pair.{Distinct, Tells, PairsMarked, PairReady, JoinIs, PairIs}
 use Rattle.pair_check.proofs.Joins as Joins
 
 -- which of two rows is undone, the left one being longer
@@ -97,29 +97,7 @@ pub record Walking (P : PairTables) (n q u v left right bound : ℕ) : Type 0 wh
   pub bound_below : bound ≤ q
   pub same : (D : Dictionary) → Tells D P.file P.lefts P.rights q → Distinct P.file → Finds P.file P.places n P.area → PairsMarked P.lefts P.rights P.area q → checks D (listed_below D) left right bound ≡ passes D q u v
 
-pub walk_start : (P : PairTables) (n q u v : ℕ) → PairReady P n q u v → Walking P n q u v u v q
-walk_start P n q u v R = record {
-  ready = R;
-  left_below = R.left_below;
-  right_below = R.right_below;
-  bound_below = omega arith;
-  same = λ D T d F M. refl;
-}
-
 module _ (P : PairTables) (n q u v x y m : ℕ) (W : Walking P n q u v x y m) where
-  pub walk_joins : JoinReady P n q m x y
-  walk_joins =
-      let f = W.ready.few in
-      record {
-        placed = W.ready.places_ready.placed;
-        area_room = W.ready.area_room;
-        left_room = W.ready.parts_ready.left_room;
-        right_room = W.ready.parts_ready.right_room;
-        below = W.bound_below;
-        left_below = omega (arith, W.left_below);
-        right_below = omega (arith, W.right_below);
-      }
-
   here : PairReady P n q x y
   here = record {
     places_ready = W.ready.places_ready;

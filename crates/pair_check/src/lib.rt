@@ -90,6 +90,7 @@ fn look_up(tables: &RowTables<'_>, limit: u32, bound: u32, left: u32, right: u32
 }
 
 // The same row: two that are not marked are the parts of none.
+// Kept: no plainer: callers compare it with codes of a text and with NONE, and JoinIs (a definition) says none so.
 #[inline(always)]
 pub fn join_before(tables: &RowTables<'_>, limit: u32, bound: u32, left: u32, right: u32) -> u32
     requires { JoinReady (pair_given tables.now) tables.now.rows.n limit bound left right }

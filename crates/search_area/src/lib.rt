@@ -54,6 +54,7 @@ pub fn longer_match(
 }
 
 // The row with these bytes, or NONE.
+// Kept: no plainer: build writes row or NONE into its tables as it is, and Found (a definition) says none so.
 pub fn find(rows: &Rows<'_>, area: &[u32], bytes: &[u8]) -> u32
     requires area_size_in_bounds { area_size ≤ length area.now }
     ensures { let r = rows.now in Found r.file.now r.places.now r.n area.now bytes.now result }
@@ -65,6 +66,7 @@ pub fn find(rows: &Rows<'_>, area: &[u32], bytes: &[u8]) -> u32
 }
 
 // The row with the bytes of row x followed by those of row y, or NONE.
+// Kept: no plainer: Joined (a definition) is Found at the joined bytes.
 pub fn join(rows: &Rows<'_>, area: &[u32], x: u32, y: u32) -> u32
     requires area_size_in_bounds { (area_size ≤ length area.now) × ((x < rows.now.n) × (y < rows.now.n)) }
     ensures { let r = rows.now in Joined r.file.now r.places.now r.n area.now x y result }

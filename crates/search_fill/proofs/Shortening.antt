@@ -1,12 +1,12 @@
 -- The longest row that begins a row before its last byte is its prefix. Assumes nothing.
-use mathlib.Core.Path.{◌≡◌, refl, sym, ap, ◌∙◌}
+use mathlib.Core.Path.{◌≡◌, sym, ap, ◌∙◌}
 use mathlib.Core.List.{List}
-use mathlib.Core.Logic.{◌⊎◌, inl, inr, ⊎_elim}
-use Prim.Native.Nat.{ℕ, ◌+◌, ◌-◌, ◌≤◌, ◌<◌}
+use mathlib.Core.Logic.{⊎_elim}
+use Prim.Native.Nat.{ℕ, ◌-◌, ◌<◌}
 use native.Mathlib.Nat.{eq-or-lt_of_le}
 use native.Mathlib.Omega.{arith}
-use lib.ListN.{length, get_or, set, take, drop, length-set, take-append-drop}
-use lib.Seq.{length-take-le, drop-set-lt, get_or-set_same, get_or-set_other}
+use lib.ListN.{length, get_or, take, drop, take-append-drop}
+use lib.Seq.{length-take-le}
 use Rattle.placed_rows.specs.Rows.{row}
 use Rattle.placed_rows.specs.Texts.{Begins}
 use Rattle.placed_rows.specs.Longest.{Below, Prefix}
@@ -16,7 +16,6 @@ use Rattle.forest.proofs.NoChild.{filled}
 use Rattle.search_area.specs.Area.{all_rows, Finds}
 use Rattle.search_area.specs.Answers.{NextMatch}
 use Rattle.search_area.proofs.Looking.{front-index, below_in}
-use Rattle.search_fill.specs.Filled.{PrefixesFilled}
 use Rattle.search_fill.specs.Steps.{PrefixIs}
 
 module _ (file places : List ℕ) (n : ℕ) (area : List ℕ) (c : ℕ) (C : c < n) where
@@ -60,29 +59,3 @@ pub record Prefixed (file places : List ℕ) (n : ℕ) (area prefixes : List ℕ
   pub kept : length prefixes' ≡ length prefixes
   pub beyond : drop n prefixes' ≡ drop n prefixes
   pub prefix : Finds file places n area → (d : ℕ) → d < c → Prefix (row file places n) (Below n) d (get_or prefixes' d 0)
-
-module _ (file places : List ℕ) (n : ℕ) (area prefixes : List ℕ) where
-  pub prefixed_none : Prefixed file places n area prefixes 0 prefixes
-  prefixed_none = record { kept = refl; beyond = refl; prefix = λ F d h. absurd (omega arith) }
-
-  pub prefixed_more : (c p : ℕ) (prefixes' : List ℕ) → c < n → n ≤ length prefixes → Prefixed file places n area prefixes c prefixes' → PrefixIs file places n area c p
-      → Prefixed file places n area prefixes (c + 1) (set prefixes' c p)
-  prefixed_more c p prefixes' C h P Q = record {
-    kept = length-set prefixes' c p ∙ P.kept;
-    beyond = drop-set-lt n prefixes' c p C ∙ P.beyond;
-    prefix = λ F d k. go F d (eq-or-lt_of_le (last d k));
-  }
-    where
-      last : (d : ℕ) → d < c + 1 → d ≤ c
-      last d k = omega arith
-
-      go : Finds file places n area → (d : ℕ) → (d ≡ c) ⊎ (d < c) → Prefix (row file places n) (Below n) d (get_or (set prefixes' c p) d 0)
-      go F d (inl e) = rw (e, get_or-set_same prefixes' c p 0 (omega (arith, P.kept))) (Q.prefix F)
-      go F d (inr k) = rw (get_or-set_other prefixes' c d p 0 (λ z. omega arith)) (P.prefix F d k)
-
-  pub prefixed_all : (c : ℕ) (prefixes' : List ℕ) → n ≤ c → Prefixed file places n area prefixes c prefixes' → PrefixesFilled file places n area prefixes prefixes'
-  prefixed_all c prefixes' h P = record {
-    prefixes_length = P.kept;
-    prefixes_beyond = P.beyond;
-    prefix = λ F d k. P.prefix F d (omega arith);
-  }

@@ -37,7 +37,6 @@ returns-then-rows-row_of c =
 
 pub loop-end-preserved-then-is_one_longer : goal.loop-end-preserved-then-is_one_longer
 loop-end-preserved-then-is_one_longer c =
-    let s = c in
     let a = c.args in
     let l = c.loop-end in
     let h = c.bucket in
@@ -47,7 +46,7 @@ loop-end-preserved-then-is_one_longer c =
     (omega (arith, c.type_inv.text l.end))
     (omega (arith, c.loop-end-test.true))
     refl)
-    (rest-later a.text.now a.at l.end l.invariant.0) (λ z. let x = c.args.rows.now.placed.few in omega arith) in
+    (rest-later a.text.now a.at l.end l.invariant.0) (λ z. omega (arith, c.args.rows.now.placed.few)) in
     let z : l.end - a.at + (a.len + (l.end - a.at) + 1 - (a.len + (l.end - a.at))) ≡ l.end + 1 - a.at = omega (arith, l.invariant.0) in
     let y : a.len + (l.end - a.at) + 1 ≡ a.len + (l.end + 1 - a.at) = omega (arith, l.invariant.0) in
     (omega (arith, l.invariant.0), (omega (arith, c.loop-end-test.true), (q, here y z t.gone)))

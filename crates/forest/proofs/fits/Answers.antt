@@ -12,40 +12,34 @@ use Rattle.forest.proofs.Places.{first-at, rest_at}
 use Rattle.forest.proofs.fits.Goals as goal
 
 pub returns-then-w-text : goal.returns-then-w-text
-returns-then-w-text c = let s = c in fits-other _ _ _ _ _ _ c.args.rows.now.placed.few (λ e. c.if-w-text.true (e ∙ first-at c.args.text.now c.args.at))
+returns-then-w-text c = fits-other _ _ _ _ _ _ c.args.rows.now.placed.few (λ e. c.if-w-text.true (e ∙ first-at c.args.text.now c.args.at))
 
 pub returns-then-text-at : goal.returns-then-text-at
 returns-then-text-at c =
-    let s = c in
     fits-long _ _ _ _ _ _ c.args.rows.now.placed.few (omega (arith, c.more_of-more.ensures.is, c.if-text-at.true, length-drop c.args.at c.args.text.now))
 
 pub returns-then-more-eq1 : goal.returns-then-more-eq1
 returns-then-more-eq1 c =
-    let s = c in
     let text = c.args.text.now in
     let at = c.args.at in
     fits_one _ _ _ _ _ _ c.args.rows.now.placed.few (c.if-w-text.false ∙ sym (first-at text at)) (omega (arith, c.more_of-more.ensures.is, c.if-more-eq1.true)) (omega (arith, length-drop at text, c.requires.w_bound.1))
 
 pub returns-then-w-text-2 : goal.returns-then-w-text-2
 returns-then-w-text-2 c =
-    let s = c in
     fits_unlike_second _ _ _ _ _ _ c.args.rows.now.placed.few (λ e. c.if-w-text-2.true (e ∙ ap (λ (b : ℕ). b % 32) (get_or-drop c.args.at c.args.text.now 1 0)))
     (omega (arith, c.more_of-more.ensures.is, c.if-more-eq1.false))
 
 pub returns-then-bytes-len : goal.returns-then-bytes-len
 returns-then-bytes-len c =
-    let s = c in
     fits-unlike _ _ _ _ _ _ c.args.rows.now.placed.few c.row_of.result c.row_of.ensures.is (λ e. omega (arith, c.if-bytes-len.true, ap length c.bytes_of-bytes.ensures))
 
 pub returns-then-bytes-len-2 : goal.returns-then-bytes-len-2
 returns-then-bytes-len-2 c =
-    let s = c in
     fits-unlike _ _ _ _ _ _ c.args.rows.now.placed.few c.row_of.result c.row_of.ensures.is
     (λ e. c.if-bytes-len-2.true (omega (arith, ap length c.bytes_of-bytes.ensures, c.more_of-more.ensures.is)))
 
 pub returns : goal.returns
 returns c =
-    let s = c in
     let a = c.args in
     let bytes = c.bytes_of-bytes in
     let t = bytes.result.now in

@@ -6,7 +6,6 @@ use Rattle.forest.proofs.insert.Goals as goal
 
 pub returns-then-k-bytes : goal.returns-then-k-bytes
 returns-then-k-bytes c =
-    let s = c in
     let bytes = c.bytes_of-bytes in
     let m = c.longest-m in
     rw c.push.ensures
@@ -22,6 +21,5 @@ returns-then-k-bytes c =
 
 pub returns-else-k-bytes : goal.returns-else-k-bytes
 returns-else-k-bytes c =
-    let s = c in
     let bytes = c.bytes_of-bytes in
     insert_none _ _ _ _ _ _ _ c.requires.hints_in_bounds.0 bytes.ensures c.longest-m.ensures (omega (arith, c.if-k-bytes.false))

@@ -7,14 +7,12 @@ use Rattle.forest.proofs.place.Goals as goal
 
 pub returns-then-n-first : goal.returns-then-n-first
 returns-then-n-first c =
-    let s = c in
     let a = c.args in
     let f = c.row_of-first.ensures.is in
     record { is = sym (place_out a.area.now a.n a.h (omega (arith, f, c.if-n-first.true))); below = omega (arith, c.requires.1.0) }
 
 pub returns : goal.returns
 returns c =
-    let s = c in
     let a = c.args in
     let f = c.row_of-first.ensures.is in
     record {

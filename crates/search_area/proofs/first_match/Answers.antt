@@ -9,7 +9,6 @@ use Rattle.search_area.proofs.first_match.Goals as goal
 
 pub returns : goal.returns
 returns c =
-    let s = c in
     let a = c.args in
     let k : a.at + 0 ≡ a.at = omega arith in
     let e : get_or (drop a.at a.text.now) 0 0 ≡ get_or a.text.now a.at 0 = get_or-drop a.at a.text.now 0 0 ∙ ap (λ (i : ℕ). get_or a.text.now i 0) k in (

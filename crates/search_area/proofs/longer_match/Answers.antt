@@ -8,6 +8,5 @@ use Rattle.search_area.proofs.longer_match.Goals as goal
 
 pub returns : goal.returns
 returns c =
-    let s = c in
     let text = c.args.text.now in
     longer_match _ _ _ _ (drop c.args.at text) _ _ _ _ _ (omega (arith, c.requires.row_lt_n.1, length-drop c.args.at text)) (sym (drop-drop c.args.len c.args.at text)) c.child.ensures

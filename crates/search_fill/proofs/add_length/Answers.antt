@@ -10,7 +10,6 @@ loop-c-init c = rows_start _ _ _ _ _ _ (omega arith)
 
 pub loop-c-preserved : goal.loop-c-preserved
 loop-c-preserved c =
-    let s = c in
     let l = c.loop-c in
     let N = c.args.rows.now.placed.few in
     let e = c.length_of.ensures.is in
@@ -21,6 +20,5 @@ loop-c-preserved c =
 
 pub returns : goal.returns
 returns c =
-    let s = c in
     let l = c.loop-c in
     rows_join _ _ _ _ _ _ _ _ _ l.invariant (rows_end _ _ _ c.args.rows.now.placed.few _ c.args.len l.c (omega arith))

@@ -6,10 +6,10 @@ use Rattle.search_fill.proofs.Parting.{row-inserted}
 use Rattle.search_fill.proofs.add_row.Goals as goal
 
 pub slice_bounds-insert-end-2 : goal.slice_bounds-insert-end-2
-slice_bounds-insert-end-2 c = let s = c in sym (front_length c.args.area.now c.requires.area_size_in_bounds.0)
+slice_bounds-insert-end-2 c = sym (front_length c.args.area.now c.requires.area_size_in_bounds.0)
 
 pub insert-requires : goal.insert-requires
-insert-requires c = let s = c in record { hints_in_bounds = (omega (arith, front_length c.args.area.now c.requires.area_size_in_bounds.0), c.requires.area_size_in_bounds.1) }
+insert-requires c = record { hints_in_bounds = (omega (arith, front_length c.args.area.now c.requires.area_size_in_bounds.0), c.requires.area_size_in_bounds.1) }
 
 pub returns : goal.returns
-returns c = let s = c in row-inserted _ _ _ c.args.area.now _ _ c.requires.area_size_in_bounds.0 c.insert.ensures
+returns c = row-inserted _ _ _ c.args.area.now _ _ c.requires.area_size_in_bounds.0 c.insert.ensures

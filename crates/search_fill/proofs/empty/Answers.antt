@@ -6,10 +6,10 @@ use Rattle.search_fill.proofs.Parting.{emptied-is}
 use Rattle.search_fill.proofs.empty.Goals as goal
 
 pub slice_bounds-clear-end-2 : goal.slice_bounds-clear-end-2
-slice_bounds-clear-end-2 c = let s = c in sym (front_length c.args.area.now c.requires)
+slice_bounds-clear-end-2 c = sym (front_length c.args.area.now c.requires)
 
 pub clear-requires : goal.clear-requires
-clear-requires c = let s = c in omega (arith, front_length c.args.area.now c.requires)
+clear-requires c = omega (arith, front_length c.args.area.now c.requires)
 
 pub returns : goal.returns
 returns c = emptied-is c.args.area.now _ c.clear.ensures

@@ -40,7 +40,8 @@ fn more_of(w: u32) -> usize
 // The word of row c, with the tag t, which has `more` bytes beyond its prefix.
 // Kept: word (a definition) needs it: three numbers in one, since the search area has one number for a row.
 fn word_of(c: usize, t: u32, more: usize) -> u32
-    requires { (c < 4096) × ((0 < more) × (more ≤ 64)) }
+    requires row { c < 4096 }
+    requires more_bytes { (0 < more) × (more ≤ 64) }
     ensures { result ≡ word c t more }
 {
     c as u32 + 8192 * (t % 8192) + 67108864 * ((more - 1) as u32)
@@ -91,7 +92,8 @@ fn may_have_child(area: &[u32], p: u32, b: u8) -> bool
 // Is w the word of a row whose prefix is p, of len bytes, and that goes on as the text from at on does? The bucket is
 // that of p and the byte there, so that a word with this byte has p as its prefix.
 fn fits(rows: &Rows<'_>, w: u32, p: u32, len: usize, text: &[u8], at: usize) -> bool
-    requires w_bound { (w % 8192 < rows.now.n) × (at < length text.now) }
+    requires row { w % 8192 < rows.now.n }
+    requires inside { at < length text.now }
     ensures { Fits (rows_of rows.now) rows.now.n p len (drop at text.now) w
         result }
 {
@@ -136,9 +138,11 @@ fn listed_child(
     text: &[u8],
     at: usize,
 ) -> Match
-    requires hints_in_bounds { (hints ≤ length area.now) × ((at < length text.now) ×
-        (first ≡ get_or area.now (bucket_of p (get_or text.now at 0)) 0)) }
-    requires at_bound { (get_or text.now at 0 < 256) × (len + (length text.now - at) < 18446744073709551616) }
+    requires room { hints ≤ length area.now }
+    requires inside { at < length text.now }
+    requires first_word { first ≡ get_or area.now (bucket_of p (get_or text.now at 0)) 0 }
+    requires byte { get_or text.now at 0 < 256 }
+    requires sum_fits { len + (length text.now - at) < 18446744073709551616 }
     ensures { ChildIs (rows_of rows.now) rows.now.n area.now p len
         (drop at text.now) result.row result.len }
 {
@@ -169,9 +173,10 @@ fn bucket_child(
     text: &[u8],
     at: usize,
 ) -> Match
-    requires hints_in_bounds { (hints ≤ length area.now) × ((at < length text.now) ×
-        (first ≡ get_or area.now (bucket_of p (get_or text.now at 0)) 0)) }
-    requires at_bound { len + (length text.now - at) < 18446744073709551616 }
+    requires room { hints ≤ length area.now }
+    requires inside { at < length text.now }
+    requires first_word { first ≡ get_or area.now (bucket_of p (get_or text.now at 0)) 0 }
+    requires sum_fits { len + (length text.now - at) < 18446744073709551616 }
     ensures { ChildIs (rows_of rows.now) rows.now.n area.now p len
         (drop at text.now) result.row result.len }
 {
@@ -191,7 +196,7 @@ fn bucket_child(
 // The row that is the byte b alone, where there is one, or NONE: it is first in its bucket.
 // Kept: no plainer: the row or NONE goes into a Match as it is, and ByteRow (a definition) says none so.
 pub fn byte_row(rows: &Rows<'_>, area: &[u32], b: u8) -> u32
-    requires hints_in_bounds { hints ≤ length area.now }
+    requires { hints ≤ length area.now }
     ensures { ByteRow (rows_of rows.now) rows.now.n area.now b result }
 {
     let w = area[root_bucket(b)];
@@ -203,8 +208,10 @@ pub fn byte_row(rows: &Rows<'_>, area: &[u32], b: u8) -> u32
 
 // The child of row p, of len bytes, that goes on as the text from at on does, or NONE.
 pub fn child(rows: &Rows<'_>, area: &[u32], p: u32, len: usize, text: &[u8], at: usize) -> Match
-    requires p_lt_n { (p < rows.now.n) × ((hints ≤ length area.now) × (at ≤ length text.now)) }
-    requires at_bound { len + (length text.now - at) < 18446744073709551616 }
+    requires row { p < rows.now.n }
+    requires room { hints ≤ length area.now }
+    requires inside { at ≤ length text.now }
+    requires sum_fits { len + (length text.now - at) < 18446744073709551616 }
     ensures { ChildIs (rows_of rows.now) rows.now.n area.now p len
         (drop at text.now) result.row result.len }
 {
@@ -227,8 +234,10 @@ pub fn descend(
     text: &[u8],
     at: usize,
 ) -> Match
-    requires from_lt_n { (from < rows.now.n) × ((hints ≤ length area.now) × (at ≤ length text.now)) }
-    requires at_bound { len + (length text.now - at) < 18446744073709551616 }
+    requires row { from < rows.now.n }
+    requires room { hints ≤ length area.now }
+    requires inside { at ≤ length text.now }
+    requires sum_fits { len + (length text.now - at) < 18446744073709551616 }
     ensures { Descent (rows_of rows.now) rows.now.n area.now from len
         (drop at text.now) result.row result.len }
 {
@@ -274,7 +283,8 @@ pub fn descend(
 
 // The shortest row that begins the text from at on, with its length, or NONE.
 fn root_child(rows: &Rows<'_>, area: &[u32], text: &[u8], at: usize) -> Match
-    requires hints_in_bounds { (hints ≤ length area.now) × (at ≤ length text.now) }
+    requires room { hints ≤ length area.now }
+    requires inside { at ≤ length text.now }
     ensures { ChildIs (rows_of rows.now) rows.now.n area.now none 0
         (drop at text.now) result.row result.len }
 {
@@ -286,7 +296,8 @@ fn root_child(rows: &Rows<'_>, area: &[u32], text: &[u8], at: usize) -> Match
 
 // The longest row that begins the text from at on, with its length, or NONE and 0.
 pub fn longest(rows: &Rows<'_>, area: &[u32], text: &[u8], at: usize) -> Match
-    requires hints_in_bounds { (hints ≤ length area.now) × (at ≤ length text.now) }
+    requires room { hints ≤ length area.now }
+    requires inside { at ≤ length text.now }
     ensures { Descent (rows_of rows.now) rows.now.n area.now none 0
         (drop at text.now) result.row result.len }
 {
@@ -301,7 +312,9 @@ pub fn longest(rows: &Rows<'_>, area: &[u32], text: &[u8], at: usize) -> Match
 
 // Where a word comes into bucket h: at its head where the bucket is empty, else at the link of its first word.
 fn place(area: &[u32], n: usize, h: usize) -> usize
-    requires { (n ≤ 4096) × ((h < row_marks) × (hints ≤ length area.now)) }
+    requires few { n ≤ 4096 }
+    requires bucket { h < row_marks }
+    requires room { hints ≤ length area.now }
     ensures { Small (place_of area.now n h) hints result }
 {
     let first = row_of(area[h]);
@@ -313,7 +326,10 @@ fn place(area: &[u32], n: usize, h: usize) -> usize
 
 // The word w of row c goes into bucket h: to its front where the bucket is empty, else behind its first word.
 fn push(area: &mut [u32], n: usize, h: usize, c: usize, w: u32)
-    requires { (n ≤ 4096) × ((c < 4096) × ((h < row_marks) × (hints ≤ length area.old))) }
+    requires few { n ≤ 4096 }
+    requires row { c < 4096 }
+    requires bucket { h < row_marks }
+    requires room { hints ≤ length area.old }
     ensures { area.new ≡ pushed area.old n h c w }
 {
     let at = place(area, n, h);
@@ -334,7 +350,9 @@ fn bucket_of(p: u32, b: u8) -> usize
 
 // Row c goes into the area, under the longest row in it that begins row c.
 pub fn insert(rows: &Rows<'_>, area: &mut [u32], c: usize)
-    requires hints_in_bounds { (hints ≤ length area.old) × ((c < rows.now.n) × (length (rows_of rows.now c) ≤ 64)) }
+    requires room { hints ≤ length area.old }
+    requires row { c < rows.now.n }
+    requires short { length (rows_of rows.now c) ≤ 64 }
     ensures { Inserted (rows_of rows.now) rows.now.n area.old c
         area.new }
 {

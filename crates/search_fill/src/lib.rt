@@ -20,7 +20,9 @@ fn empty(area: &mut [u32])
 
 // Row c goes into the rows' part.
 fn add_row(rows: &Rows<'_>, area: &mut [u32], c: usize)
-    requires area_size_in_bounds { (area_size ≤ length area.old) × ((c < rows.now.n) × (length (rows_of rows.now c) ≤ 64)) }
+    requires room { area_size ≤ length area.old }
+    requires row { c < rows.now.n }
+    requires short { length (rows_of rows.now c) ≤ 64 }
     ensures { let r = rows.now in RowIn r.file.now r.places.now r.n area.old c area.new }
 {
     forest::insert(rows, &mut area[..HINTS], c);
@@ -28,7 +30,8 @@ fn add_row(rows: &Rows<'_>, area: &mut [u32], c: usize)
 
 // All rows of len bytes go in.
 fn add_length(rows: &Rows<'_>, area: &mut [u32], len: usize)
-    requires area_size_in_bounds { (area_size ≤ length area.old) × (len ≤ 64) }
+    requires room { area_size ≤ length area.old }
+    requires short { len ≤ 64 }
     ensures { let r = rows.now in RowsIn r.file.now r.places.now r.n area.old (len * 4096)
         area.new ((len + 1) * 4096) }
 {
@@ -41,7 +44,7 @@ fn add_length(rows: &Rows<'_>, area: &mut [u32], len: usize)
 
 // The search area is filled: shorter rows first, so that the prefix of a row is there before it.
 fn fill_area(rows: &Rows<'_>, area: &mut [u32])
-    requires area_size_in_bounds { area_size ≤ length area.old }
+    requires { area_size ≤ length area.old }
     ensures { let r = rows.now in AreaFilled r.file.now r.places.now r.n area.old area.new }
 {
     empty(area);
@@ -52,7 +55,8 @@ fn fill_area(rows: &Rows<'_>, area: &mut [u32])
 
 // The prefix of row c: the longest row that begins what it has before its last byte.
 fn prefix_of(rows: &Rows<'_>, area: &[u32], c: usize) -> u32
-    requires area_size_in_bounds { (area_size ≤ length area.now) × (c < rows.now.n) }
+    requires room { area_size ≤ length area.now }
+    requires row { c < rows.now.n }
     ensures { let r = rows.now in PrefixIs r.file.now r.places.now r.n area.now c result }
 {
     let bytes = rows.bytes_of(c);
@@ -66,7 +70,8 @@ fn prefix_of(rows: &Rows<'_>, area: &[u32], c: usize) -> u32
 
 // The prefixes of all rows.
 fn fill_prefixes(rows: &Rows<'_>, prefixes: &mut [u32], area: &[u32])
-    requires area_size_in_bounds { (area_size ≤ length area.now) × (rows.now.n ≤ length prefixes.old) }
+    requires room { area_size ≤ length area.now }
+    requires prefixes_room { rows.now.n ≤ length prefixes.old }
     ensures { let r = rows.now in PrefixesFilled r.file.now r.places.now r.n area.now
         prefixes.old prefixes.new }
 {

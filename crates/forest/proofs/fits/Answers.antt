@@ -22,7 +22,7 @@ pub returns-then-more-eq1 : goal.returns-then-more-eq1
 returns-then-more-eq1 c =
     let text = c.args.text.now in
     let at = c.args.at in
-    fits_one _ _ _ _ _ _ c.args.rows.now.placed.few (c.if-w-text.false ∙ sym (first-at text at)) (omega (arith, c.more_of-more.ensures.is, c.if-more-eq1.true)) (omega (arith, length-drop at text, c.requires.w_bound.1))
+    fits_one _ _ _ _ _ _ c.args.rows.now.placed.few (c.if-w-text.false ∙ sym (first-at text at)) (omega (arith, c.more_of-more.ensures.is, c.if-more-eq1.true)) (omega (arith, length-drop at text, c.requires.inside))
 
 pub returns-then-w-text-2 : goal.returns-then-w-text-2
 returns-then-w-text-2 c =

@@ -9,7 +9,7 @@ returns-then-k-bytes c =
     let bytes = c.bytes_of-bytes in
     let m = c.longest-m in
     rw c.push.ensures
-    (insert_done _ _ _ _ _ _ _ c.requires.hints_in_bounds.0 bytes.ensures m.ensures _ _ _ _ _ _ _
+    (insert_done _ _ _ _ _ _ _ c.requires.room bytes.ensures m.ensures _ _ _ _ _ _ _
     c.mark.ensures
     c.child_key.ensures.is
     refl
@@ -22,4 +22,4 @@ returns-then-k-bytes c =
 pub returns-else-k-bytes : goal.returns-else-k-bytes
 returns-else-k-bytes c =
     let bytes = c.bytes_of-bytes in
-    insert_none _ _ _ _ _ _ _ c.requires.hints_in_bounds.0 bytes.ensures c.longest-m.ensures (omega (arith, c.if-k-bytes.false))
+    insert_none _ _ _ _ _ _ _ c.requires.room bytes.ensures c.longest-m.ensures (omega (arith, c.if-k-bytes.false))

@@ -16,7 +16,7 @@ pub loop-step-init : goal.loop-step-init
 loop-step-init c =
     let n = c.args.rows.now.n in
     let z : n - 0 ≡ n = omega arith in
-    rw (z, c.requires.hints_in_bounds.1.1) (search_start _ _ _ _ _ _ _ (ap (λ (b : ℕ). bucket_of c.args.p b) (sym (first-at c.args.text.now c.args.at))))
+    rw (z, c.requires.first_word) (search_start _ _ _ _ _ _ _ (ap (λ (b : ℕ). bucket_of c.args.p b) (sym (first-at c.args.text.now c.args.at))))
 
 pub returns-then-rows-i : goal.returns-then-rows-i
 returns-then-rows-i c =
@@ -33,7 +33,7 @@ returns-then-fits c =
     (omega (arith, c.if-rows-i.false))
     c.args.rows.now.placed.few
     (omega (arith, c.more_of.ensures.is))
-    (omega (arith, first-at c.args.text.now c.args.at, c.requires.at_bound.0))
+    (omega (arith, first-at c.args.text.now c.args.at, c.requires.byte))
     (fitting)
     l.invariant
 

@@ -6,10 +6,10 @@ use Rattle.search_fill.proofs.Parting.{row-inserted}
 use Rattle.search_fill.proofs.add_row.Goals as goal
 
 pub slice_bounds-insert-end-2 : goal.slice_bounds-insert-end-2
-slice_bounds-insert-end-2 c = sym (front_length c.args.area.now c.requires.area_size_in_bounds.0)
+slice_bounds-insert-end-2 c = sym (front_length c.args.area.now c.requires.room)
 
-pub insert-requires : goal.insert-requires
-insert-requires c = record { hints_in_bounds = (omega (arith, front_length c.args.area.now c.requires.area_size_in_bounds.0), c.requires.area_size_in_bounds.1) }
+pub insert-requires-clause-room : goal.insert-requires-clause-room
+insert-requires-clause-room c = omega (arith, front_length c.args.area.now c.requires.room)
 
 pub returns : goal.returns
-returns c = row-inserted _ _ _ c.args.area.now _ _ c.requires.area_size_in_bounds.0 c.insert.ensures
+returns c = row-inserted _ _ _ c.args.area.now _ _ c.requires.room c.insert.ensures

@@ -13,4 +13,4 @@ pub returns : goal.returns
 returns c =
     let l = c.loop-len in
     let e : l.len ≡ 65 = omega arith in
-    area_filled _ _ _ c.args.rows.now.placed.few c.args.area.now l.area c.requires.area_size_in_bounds (rw (c.empty.ensures, e) at l.invariant)
+    area_filled _ _ _ c.args.rows.now.placed.few c.args.area.now l.area c.requires (rw (c.empty.ensures, e) at l.invariant)

@@ -8,9 +8,9 @@ use Rattle.search_fill.proofs.Shortening.{prefix-empty, prefix-longest}
 use Rattle.search_fill.proofs.prefix_of.Goals as goal
 
 pub returns-then-bytes-eq0 : goal.returns-then-bytes-eq0
-returns-then-bytes-eq0 c = prefix-empty _ _ _ _ _ c.requires.area_size_in_bounds.1 _ (sym (ap length c.bytes_of-bytes.ensures) ∙ c.if-bytes-eq0.true)
+returns-then-bytes-eq0 c = prefix-empty _ _ _ _ _ c.requires.row _ (sym (ap length c.bytes_of-bytes.ensures) ∙ c.if-bytes-eq0.true)
 
 pub returns : goal.returns
 returns c =
     let e = c.bytes_of-bytes.ensures in
-    prefix-longest _ _ _ _ _ c.requires.area_size_in_bounds.1 _ _ _ (omega (arith, ap length e, c.if-bytes-eq0.false)) (ap (λ (t : List ℕ). take (length t - 1) t) e) c.next_match-m.ensures
+    prefix-longest _ _ _ _ _ c.requires.row _ _ _ (omega (arith, ap length e, c.if-bytes-eq0.false)) (ap (λ (t : List ℕ). take (length t - 1) t) e) c.next_match-m.ensures

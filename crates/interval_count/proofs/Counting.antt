@@ -2,7 +2,7 @@
 use mathlib.Core.Path.{◌≡◌, ap, ◌∙◌}
 use mathlib.Core.Logic.{◌⊎◌}
 use mathlib.Core.List.{List}
-use Prim.Native.Nat.{ℕ, ◌+◌, ◌-◌, ◌*◌, ◌≤◌, ◌<◌}
+use Prim.Native.Nat.{ℕ, ◌+◌, ◌-◌, ◌*◌, ◌≤◌}
 use native.Mathlib.Omega.{arith}
 use lib.ListN.{length, get_or}
 use Rattle.theory.specs.Dictionary.{none}
@@ -17,27 +17,27 @@ use Rattle.backtrack_encoder.specs.Steps.{Started, Stepped}
 use Rattle.backtrack_encoder.proofs.Sizes.{count_pos}
 use Rattle.backtrack_encoder.proofs.Nexts.{Bytes}
 use Rattle.backtrack_encoder.proofs.Stepping.{on_the_way}
-use Rattle.backtrack_encoder.proofs.Running.{done, Running, running-start, running-step, running-end, codes-count}
-use Rattle.interval_count.specs.Steps.{MeetsReady, Meets, BetweenReady, PieceReady, PieceCounts}
+use Rattle.backtrack_encoder.proofs.Running.{Running, running-start, running-step, running-end, codes-count}
+use Rattle.interval_count.specs.Steps.{MeetsReady, Meets, PieceReady, PieceCounts}
 use Rattle.interval_count.proofs.Meeting.{met-count}
 use Rattle.tables.specs.Tables.{Tables}
 
 module _ (T : Tables) (n : ℕ) (piece codes numbers ends depths : List ℕ) (from to : ℕ) (entry : List ℕ) where
   open T use {file, places, area}
 
-  -- what is known with so many steps left; `entry` is the work buffer at the start
-  pub record Counting (left : ℕ) (e : BacktrackEncoder) (work alive : List ℕ) : Type 0 where
+  -- what is known after so many steps; `entry` is the work buffer at the start
+  pub record Counting (done : ℕ) (e : BacktrackEncoder) (work alive : List ℕ) : Type 0 where
     pub piece_ready : PieceReady T n piece codes numbers ends depths from to entry
-    pub running : Running T n piece entry left e work alive
+    pub running : Running T n piece entry done e work alive
 
   pub counting-start : (e : BacktrackEncoder) (alive : List ℕ) → PieceReady T n piece codes numbers ends depths from to entry
-      → Started file places area n piece e → is_set alive ≡ all_set → Counting (2 * length piece) e entry alive
+      → Started file places area n piece e → is_set alive ≡ all_set → Counting 0 e entry alive
   counting-start e alive R S a = record { piece_ready = R; running = running-start T n piece entry e alive R.ready S a }
 
-  module _ (left : ℕ) (e : BacktrackEncoder) (work alive : List ℕ) (C : Counting left e work alive) where
-    pub counting-step : (r : BacktrackEncoder) (work' alive' : List ℕ) → 0 < left
-        → Stepped T n piece e work alive r work' alive' → Counting (left - 1) r work' alive'
-    counting-step r work' alive' some K = record { piece_ready = C.piece_ready; running = running-step T n piece entry left e work alive C.running r work' alive' some K }
+  module _ (done : ℕ) (e : BacktrackEncoder) (work alive : List ℕ) (C : Counting done e work alive) where
+    pub counting-step : (r : BacktrackEncoder) (work' alive' : List ℕ)
+        → Stepped T n piece e work alive r work' alive' → Counting (done + 1) r work' alive'
+    counting-step r work' alive' K = record { piece_ready = C.piece_ready; running = running-step T n piece entry done e work alive C.running r work' alive' K }
 
     few : e.count ≤ e.pos
     few = count_pos file places n C.piece_ready.ready.tables.places_ready piece e work C.running.ready
@@ -59,12 +59,6 @@ module _ (T : Tables) (n : ℕ) (piece codes numbers ends depths : List ℕ) (fr
       ends_room = C.piece_ready.ends_room;
     }
 
-    pub between-ready : BetweenReady depths (from + e.pos) to
-    between-ready = record { place_room = omega (arith, inside, C.piece_ready.depths_room); to_room = C.piece_ready.depths_room }
-
-    pub place-fits : from + e.pos ≤ 4096
-    place-fits = omega (arith, inside, C.piece_ready.short)
-
     pub sum_fits : (d : ℕ) → d ≡ get_or depths to 0 - get_or depths (from + e.pos) 0 → e.count + d ≤ 8193
     sum_fits d s = omega (arith, few, inside, C.piece_ready.short, C.piece_ready.shallow)
 
@@ -79,17 +73,17 @@ module _ (T : Tables) (n : ℕ) (piece codes numbers ends depths : List ℕ) (fr
           let D = dictionary_of file in
           ap (λ (k : ℕ). e.count + k) s
           ∙ met-count file n piece work e C.running.ready room
-          (run D piece (done T n piece entry left) (start D piece))
-          (on_the_way T n piece B b (done T n piece entry left))
+          (run D piece done (start D piece))
+          (on_the_way T n piece B b done)
           (C.running.shows B).stack
           text codes numbers ends depths from to (lawful-is T n B) P few C.piece_ready.size fits is M;
     }
 
     -- the piece is encoded to its end
-    pub counting-end : Bytes piece → (left ≡ 0) ⊎ (e.next ≡ none) → PieceCounts T n piece codes numbers ends depths from to entry e.count work
+    pub counting-end : Bytes piece → (2 * length piece ≤ done) ⊎ (e.next ≡ none) → PieceCounts T n piece codes numbers ends depths from to entry e.count work
     unfolding interval_count
     counting-end b o =
-        let K = running-end T n piece entry left e work alive C.running b o in
+        let K = running-end T n piece entry done e work alive C.running b o in
         record {
           few = omega (arith, K.few);
           work_length = K.work_length;

@@ -1,13 +1,10 @@
 -- Where the codes of a piece and the prepared tables meet: the tables give the count of the rest. Assumes nothing.
 use mathlib.Core.Path.{◌≡◌, sym, ap, ◌∙◌}
 use mathlib.Core.List.{List, [], ◌∷◌, ◌++◌}
-use mathlib.Core.Bool.{false}
 use Prim.Native.Nat.{ℕ, suc, ◌+◌, ◌-◌, ◌≤◌, ◌<◌}
 use native.Mathlib.Omega.{arith}
 use lib.ListN.{length, length-append, length-drop, get_or, take, drop}
 use lib.Seq.{length-take-le, take-suc, take_at, take-take}
-use lib.Dec.{ltb}
-use borrow.Author.Tests.{ltb-true}
 use Rattle.theory.specs.Dictionary.{Dictionary, spell}
 use Rattle.theory.specs.Merge.{encode}
 use Rattle.theory.specs.Table.{last_code}
@@ -21,17 +18,7 @@ use Rattle.backtrack_encoder.specs.declared.BacktrackEncoder.{BacktrackEncoder}
 use Rattle.backtrack_encoder.specs.Encoder.{stack_of, EncoderReady}
 use Rattle.backtrack_encoder.proofs.Stack.{stack-codes}
 use Rattle.built_tables.specs.IntervalTables.{Prepared}
-use Rattle.interval_count.specs.Steps.{Meets, MeetsIs}
-
--- the cases of the test
-
-module _ (e : BacktrackEncoder) (work last_codes numbers ends : List ℕ) (from to : ℕ) where
-  pub not-met : MeetsIs e work last_codes numbers ends from to false
-  not-met = record { met = λ z. absurd (let q : ◌≡◌ {A = ℕ} 0 1 = cc in omega arith) }
-
-  pub met_if : (e.count ≡ 0 → ⊥) → get_or last_codes (from + e.pos - 1) 0 ≡ get_or work (e.count - 1) 0 → get_or numbers (from + e.pos) 0 ≤ get_or numbers to 0
-      → MeetsIs e work last_codes numbers ends from to (ltb (get_or numbers to 0) (get_or ends (from + e.pos) 0))
-  met_if n s l = record { met = λ z. record { some = omega arith; same_code = s; least = l; below = ltb-true (get_or numbers to 0) (get_or ends (from + e.pos) 0) z } }
+use Rattle.interval_count.specs.Steps.{Meets}
 
 -- a state on the way has the codes of the piece up to its place
 module _ (D : Dictionary) (piece : List ℕ) (s : State) (g : Going D piece s) (inside : place D s.stack ≤ length piece) where

@@ -1,14 +1,11 @@
 -- What the interval count of document 01 leaves and answers.
-use Rattle.std.specs.Prelude.{◌≡◌, List, [], ◌∷◌, Bool, true, not, ◌||◌, ℕ, ◌+◌, ◌*◌, ◌≤◌, length, drop, ltb}
-use Rattle.std.proofs.Math.Option.{Option}
+use Rattle.std.specs.Prelude.{◌≡◌, List, [], ◌∷◌, Bool, true, not, ◌||◌, ℕ, ◌+◌, ◌*◌, ◌≤◌, length, drop, ltb, Option, Some, None, Result}
+use Rattle.std.proofs.Math.Option as Refusal
 use Rattle.causes.specs.declared.Cause.{Cause}
 use Rattle.causes.specs.declared.Cause.TheVariants.{TooShort, OutOfForm, TooLong, BadInterval}
-use Rattle.causes.specs.declared.Answer.{Answer}
 use Rattle.causes.specs.Order.{other_order, when, over, shorter, first_of}
 use Rattle.causes.specs.Call.{Call, to_number}
 use Rattle.tables.specs.Tables.{Tables}
-use Rattle.tables.specs.declared.Form.{Form}
-use Rattle.tables.specs.declared.Form.TheVariants.{Rows, Out}
 use Rattle.tables.specs.InForm.{form_of}
 use Rattle.theory.specs.Tree.{interval_count}
 use Rattle.built_tables.specs.Built.{dictionary_of, Built}
@@ -16,9 +13,9 @@ use Rattle.backtrack_encoder.specs.Encoder.{TextReady}
 use Rattle.built_tables.specs.IntervalTables.{Prepared, interval_in_form}
 
 -- the dictionary tables are out of form, or the interval tables
-abbrev pub any_out : Form → List ℕ → List ℕ → List ℕ → List ℕ → List ℕ → Bool
-any_out (Rows n) text last_codes numbers ends depths = not (interval_in_form n text last_codes numbers ends depths)
-any_out Out text last_codes numbers ends depths = true
+abbrev pub any_out : Option ℕ → List ℕ → List ℕ → List ℕ → List ℕ → List ℕ → Bool
+any_out (Some n) text last_codes numbers ends depths = not (interval_in_form n text last_codes numbers ends depths)
+any_out None text last_codes numbers ends depths = true
 
 -- the interval's start is above its end, or that is above the text's length
 abbrev pub bad_interval : List ℕ → ℕ → ℕ → Bool
@@ -49,7 +46,7 @@ pub record CoreCounts (T : Tables) (n : ℕ) (text last_codes numbers ends depth
 
 module _ (T : Tables) (text last_codes numbers ends depths : List ℕ) (from to : ℕ) (work : List ℕ) where
   -- why the interval count is refused: 9, 7, 8, 11
-  unfoldable pub interval_refusal : Option Cause
+  unfoldable pub interval_refusal : Refusal.Option Cause
   interval_refusal =
       first_of other_order
       (when (over text) TooLong
@@ -66,5 +63,5 @@ module _ (T : Tables) (text last_codes numbers ends depths : List ℕ) (from to 
         → count ≡ interval_count (dictionary_of T.file) text from to
 
   -- `IntervalEncoding::count`: a refusal leaves the work buffer as it was
-  abbrev pub Counts : (work' : List ℕ) → Answer → Type 0
+  abbrev pub Counts : (work' : List ℕ) → Result ℕ Cause → Type 0
   Counts work' r = Call to_number interval_refusal (λ cause. work' ≡ work) (IntervalCounted work') r

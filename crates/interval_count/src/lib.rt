@@ -7,29 +7,23 @@ ghost use Rattle.std.specs.Prelude.{◌≡◌, ◌-◌, length, get_or};
 ghost use Rattle.built_tables.specs.IntervalTables.{codes_in_form, tree_in_form, interval_in_form};
 ghost use Rattle.interval_count.specs.Steps.{MeetsReady, MeetsIs, BetweenReady, PieceReady, PieceCounts};
 ghost use Rattle.interval_count.specs.Answers.{CoreReady, CoreCounts, Counts};
-ghost use Rattle.tables.specs.Tables.{given, lent, before, after};
+ghost use Rattle.tables.specs.Tables.{given, lent};
 
 use backtrack_encoder::{BacktrackEncoder, step};
-use bitfield::all_set;
-use causes::{Answer, Cause};
-use placed_rows::{NONE, wide};
-use tables::Form;
+use bitfield::BitField;
+use causes::Cause;
+use placed_rows::NONE;
+use tables::{RowTables, Tables};
 
-// Whether a table of last codes has one entry per byte, each below n.
-fn codes_in_form(n: usize, text: &[u8], last_codes: &[u32]) -> bool
-    ensures { result ≡ codes_in_form n text.now last_codes.now }
-{
-    if last_codes.len() < text.len() {
-        return false;
-    }
-    let mut i = 0;
-    while i < text.len() {
-        if n <= wide(last_codes[i]) {
-            return false;
-        }
-        i += 1;
-    }
-    true
+// A text, and last code, tree number, tree end and depth of each of its prefixes, as preparation left them. Nothing is
+// known of them before `in_form` has looked at them.
+#[derive(Clone, Copy)]
+pub struct IntervalTables<'a> {
+    pub text: &'a [u8],
+    pub last_codes: &'a [u32],
+    pub numbers: &'a [u32],
+    pub ends: &'a [u32],
+    pub depths: &'a [u32],
 }
 
 // Whether a tree table has one entry more, none above the text's length + 1.
@@ -40,207 +34,149 @@ fn tree_in_form(text: &[u8], table: &[u32]) -> bool
         return false;
     }
     let most = text.len() + 1;
-    let mut i = 0;
-    while i < most {
-        if most < wide(table[i]) {
+    for i in 0..most {
+        if most < table[i] as usize {
             return false;
         }
-        i += 1;
     }
     true
 }
 
-// Whether interval tables are in form.
-fn interval_in_form(
-    n: usize,
-    text: &[u8],
-    last_codes: &[u32],
-    numbers: &[u32],
-    ends: &[u32],
-    depths: &[u32],
-) -> bool
-    ensures { result ≡ interval_in_form n text.now last_codes.now numbers.now
-        ends.now depths.now }
-{
-    if !codes_in_form(n, text, last_codes) {
-        return false;
-    }
-    if !tree_in_form(text, numbers) {
-        return false;
-    }
-    if !tree_in_form(text, ends) {
-        return false;
-    }
-    tree_in_form(text, depths)
-}
-
-// Whether the prepared tables take over at the encoder's place: its last code is that of the prefix up to there, and
-// the prefix up to the interval's end is that prefix or below it.
-fn meets(
-    encoder: BacktrackEncoder,
-    work: &[u32],
-    last_codes: &[u32],
-    numbers: &[u32],
-    ends: &[u32],
-    from: usize,
-    to: usize,
-) -> bool
-    requires { MeetsReady encoder work.now last_codes.now numbers.now ends.now from to }
-    ensures { MeetsIs encoder work.now last_codes.now numbers.now
-        ends.now from to result }
-{
-    if encoder.count == 0 {
-        return false;
-    }
-    let last = encoder.count - 1;
-    let place = from + encoder.pos;
-    if last_codes[place - 1] != work[last] {
-        return false;
-    }
-    if numbers[to] < numbers[place] {
-        return false;
-    }
-    numbers[to] < ends[place]
-}
-
-// How many codes the prefix of `to` bytes has more than that of `place` bytes; 0 where it has fewer.
-fn codes_between(depths: &[u32], place: usize, to: usize) -> usize
-    requires { BetweenReady depths.now place to }
-    ensures { result ≡ get_or depths.now to 0 - get_or depths.now place 0 }
-{
-    if depths[to] < depths[place] {
-        return 0;
-    }
-    wide(depths[to] - depths[place])
-}
-
-// The number of codes of a piece of a text, which is encoded again until the prepared tables take over.
-fn count_piece(
-    file: &[u8],
-    places: &[u32],
-    lefts: &[u32],
-    rights: &[u32],
-    prefixes: &[u32],
-    area: &[u32],
-    n: usize,
-    piece: &[u8],
-    last_codes: &[u32],
-    numbers: &[u32],
-    ends: &[u32],
-    depths: &[u32],
-    from: usize,
-    to: usize,
-    work: &mut [u32],
-) -> usize
-    requires { PieceReady (given file places lefts rights prefixes area)
-        n piece.now last_codes.now numbers.now ends.now depths.now from to work.old }
-    ensures { PieceCounts (lent file places lefts rights prefixes area)
-        n piece.now last_codes.now numbers.now ends.now depths.now from to work.old
-        result work.new }
-{
-    let mut alive = all_set();
-    let mut encoder = backtrack_encoder::start(file, places, area, n, piece);
-    let mut left = 2 * piece.len();
-    while left > 0 {
-        if encoder.next == NONE {
-            return encoder.count;
+impl<'a> IntervalTables<'a> {
+    // Whether the table of last codes has one entry per byte, each below n.
+    fn codes_in_form(&self, n: usize) -> bool
+        ensures { result ≡ codes_in_form n self.now.text.now self.now.last_codes.now }
+    {
+        if self.last_codes.len() < self.text.len() {
+            return false;
         }
-        encoder = step(
-            file, places, lefts, rights, prefixes, area, n, piece, encoder, work, &mut alive,
-        );
-        left -= 1;
-        if meets(encoder, work, last_codes, numbers, ends, from, to) {
-            return encoder.count + codes_between(depths, from + encoder.pos, to);
+        for i in 0..self.text.len() {
+            if n <= self.last_codes[i] as usize {
+                return false;
+            }
         }
+        true
     }
-    encoder.count
-}
 
-// The count of an interval of a prepared text, over tables in form.
-pub fn count_core(
-    file: &[u8],
-    places: &[u32],
-    lefts: &[u32],
-    rights: &[u32],
-    prefixes: &[u32],
-    area: &[u32],
-    n: usize,
-    text: &[u8],
-    last_codes: &[u32],
-    numbers: &[u32],
-    ends: &[u32],
-    depths: &[u32],
-    start: usize,
-    end: usize,
-    work: &mut [u32],
-) -> usize
-    requires { CoreReady (given file places lefts rights prefixes area)
-        n text.now last_codes.now numbers.now ends.now depths.now start end work.old }
-    ensures { CoreCounts (lent file places lefts rights prefixes area)
-        n text.now last_codes.now numbers.now ends.now depths.now start end work.old
-        result work.new }
-{
-    count_piece(
-        file,
-        places,
-        lefts,
-        rights,
-        prefixes,
-        area,
-        n,
-        &text[start..end],
-        last_codes,
-        numbers,
-        ends,
-        depths,
-        start,
-        end,
-        work,
-    )
-}
+    // Whether the interval tables are in form.
+    fn in_form(&self, n: usize) -> bool
+        ensures { let I = self.now in result ≡ interval_in_form n I.text.now I.last_codes.now I.numbers.now
+            I.ends.now I.depths.now }
+    {
+        if !self.codes_in_form(n) {
+            return false;
+        }
+        if !tree_in_form(self.text, self.numbers) {
+            return false;
+        }
+        if !tree_in_form(self.text, self.ends) {
+            return false;
+        }
+        tree_in_form(self.text, self.depths)
+    }
 
-// The number of codes of the piece from `start` to `end`, the byte at the end not included: the source's
-// `IntervalEncoding::count`.
-pub fn count(
-    file: &[u8],
-    places: &[u32],
-    lefts: &[u32],
-    rights: &[u32],
-    prefixes: &[u32],
-    area: &[u32],
-    text: &[u8],
-    last_codes: &[u32],
-    numbers: &[u32],
-    ends: &[u32],
-    depths: &[u32],
-    start: usize,
-    end: usize,
-    work: &mut [u32],
-) -> Answer
-    ensures { Counts (lent file places lefts rights prefixes area)
-        text.now last_codes.now numbers.now ends.now depths.now start end work.old
-        work.new result }
-{
-    if 4096 < text.len() {
-        return Answer::Refused(Cause::TooLong);
+    // Whether the prepared tables take over at the encoder's place: its last code is that of the prefix up to there, and
+    // the prefix up to the interval's end is that prefix or below it.
+    fn meets(&self, encoder: BacktrackEncoder, work: &[u32], from: usize, to: usize) -> bool
+        requires { let I = self.now in MeetsReady encoder work.now I.last_codes.now I.numbers.now I.ends.now from to }
+        ensures { let I = self.now in MeetsIs encoder work.now I.last_codes.now I.numbers.now I.ends.now from to
+            result }
+    {
+        if encoder.count == 0 {
+            return false;
+        }
+        let last = encoder.count - 1;
+        let place = from + encoder.pos;
+        if self.last_codes[place - 1] != work[last] {
+            return false;
+        }
+        if self.numbers[to] < self.numbers[place] {
+            return false;
+        }
+        self.numbers[to] < self.ends[place]
     }
-    if work.len() < text.len() {
-        return Answer::Refused(Cause::TooShort);
+
+    // How many codes the prefix of `to` bytes has more than that of `place` bytes; 0 where it has fewer.
+    fn codes_between(&self, place: usize, to: usize) -> usize
+        requires { BetweenReady self.now.depths.now place to }
+        ensures { result ≡ get_or self.now.depths.now to 0 - get_or self.now.depths.now place 0 }
+    {
+        self.depths[to].saturating_sub(self.depths[place]) as usize
     }
-    let Form::Rows(n) = tables::tables_in_form(file, places, lefts, rights, prefixes, area) else {
-        return Answer::Refused(Cause::OutOfForm);
-    };
-    if !interval_in_form(n, text, last_codes, numbers, ends, depths) {
-        return Answer::Refused(Cause::OutOfForm);
+
+    // The number of codes of a piece of the text, which is encoded again until the prepared tables take over.
+    fn count_piece(
+        &self,
+        tables: &RowTables<'_>,
+        piece: &[u8],
+        from: usize,
+        to: usize,
+        work: &mut [u32],
+    ) -> usize
+        requires { let I = self.now in PieceReady (given tables.now) tables.now.rows.n piece.now I.last_codes.now
+            I.numbers.now I.ends.now I.depths.now from to work.old }
+        ensures { let I = self.now in PieceCounts (given tables.now) tables.now.rows.n piece.now I.last_codes.now
+            I.numbers.now I.ends.now I.depths.now from to work.old result work.new }
+    {
+        let mut alive = BitField::new();
+        let mut encoder = backtrack_encoder::start(&tables.rows, tables.area, piece);
+        for _done in 0..2 * piece.len() {
+            if encoder.next == NONE {
+                return encoder.count;
+            }
+            encoder = step(tables, piece, encoder, work, &mut alive);
+            if self.meets(encoder, work, from, to) {
+                return encoder.count + self.codes_between(from + encoder.pos, to);
+            }
+        }
+        encoder.count
     }
-    if end < start {
-        return Answer::Refused(Cause::BadInterval);
+
+    // The count of an interval of the text, over tables in form.
+    pub fn count_core(
+        &self,
+        tables: &RowTables<'_>,
+        start: usize,
+        end: usize,
+        work: &mut [u32],
+    ) -> usize
+        requires { let I = self.now in CoreReady (given tables.now) tables.now.rows.n I.text.now I.last_codes.now
+            I.numbers.now I.ends.now I.depths.now start end work.old }
+        ensures { let I = self.now in CoreCounts (given tables.now) tables.now.rows.n I.text.now I.last_codes.now
+            I.numbers.now I.ends.now I.depths.now start end work.old result work.new }
+    {
+        self.count_piece(tables, &self.text[start..end], start, end, work)
     }
-    if text.len() < end {
-        return Answer::Refused(Cause::BadInterval);
+
+    // The number of codes of the piece from `start` to `end`, the byte at the end not included: the source's
+    // `IntervalEncoding::count`.
+    pub fn count(
+        &self,
+        tables: &Tables<'_>,
+        start: usize,
+        end: usize,
+        work: &mut [u32],
+    ) -> Result<usize, Cause>
+        ensures { let I = self.now in Counts (lent tables.now) I.text.now I.last_codes.now I.numbers.now I.ends.now
+            I.depths.now start end work.old work.new result }
+    {
+        let text = self.text;
+        if 4096 < text.len() {
+            return Err(Cause::TooLong);
+        }
+        if work.len() < text.len() {
+            return Err(Cause::TooShort);
+        }
+        let tables = tables::in_form(tables).ok_or(Cause::OutOfForm)?;
+        if !self.in_form(tables.rows.n) {
+            return Err(Cause::OutOfForm);
+        }
+        if end < start {
+            return Err(Cause::BadInterval);
+        }
+        if text.len() < end {
+            return Err(Cause::BadInterval);
+        }
+        Ok(self.count_core(&tables, start, end, work))
     }
-    Answer::Number(count_core(
-        file, places, lefts, rights, prefixes, area, n, text, last_codes, numbers, ends, depths,
-        start, end, work,
-    ))
 }

@@ -1,11 +1,6 @@
 -- The loop's invariant: the first i entries fit. Assumes nothing.
-use Prim.Native.Nat.{◌-◌, ◌+◌}
-use lib.ListN.{length}
 use Rattle.interval_count.proofs.Forms.{Fitting}
 use Rattle.interval_count.proofs.tree_in_form.Given as goal
 
 abbrev pub invariant-loop-i : goal.invariant-loop-i
 invariant-loop-i l = Fitting l.text l.table l.i
-
-abbrev pub decreases-loop-i : goal.decreases-loop-i
-decreases-loop-i l = length l.text + 1 - l.i

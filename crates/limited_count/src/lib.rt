@@ -7,17 +7,18 @@
 ghost use Rattle.std.specs.Prelude.{◌≡◌, ◌≤◌, ◌<◌, length};
 ghost use Rattle.marks.specs.Layout.{area_size};
 ghost use Rattle.theory.specs.CountLimit.{final};
-ghost use Rattle.tables.specs.Tables.{given, lent, pair_given, pair_lent, before, after};
+ghost use Rattle.tables.specs.Tables.{given, pair_given};
 ghost use Rattle.backtrack_encoder.specs.Encoder.{TextReady};
 ghost use Rattle.limited_count.specs.Answers.{limited_of, LimitedIs};
 ghost use Rattle.limited_count.specs.Stops.{stays_at, StaysIf, in_a_row, ManyReady, ManyIs, AheadReady};
 ghost use Rattle.limited_count.specs.Stops.{OverIs};
 
 use backtrack_encoder::{BacktrackEncoder, start, step};
-use bitfield::all_set;
+use bitfield::BitField;
 use end_code::{Side, bytes_before, end_code_at};
 use pair_check::may_join;
 use placed_rows::NONE;
+use tables::RowTables;
 
 // The answer for a final count: the count, or None for "over".
 fn within(count: usize, limit: u64) -> Option<usize>
@@ -66,37 +67,17 @@ fn one_more(many: usize, count: u32, limit: u64) -> usize
 
 // Whether the first bytes up to each of 64 places in a row have `limit` codes or more. The codes up to a place are
 // counted by its last code, as the table has it.
-fn have_many_codes(
-    file: &[u8],
-    places: &[u32],
-    lefts: &[u32],
-    rights: &[u32],
-    area: &[u32],
-    n: usize,
-    text: &[u8],
-    limit: u64,
-) -> bool
-    requires { ManyReady (pair_given file places lefts rights area) n text.now }
-    ensures { ManyIs (pair_lent file places lefts rights area) n text.now limit result }
+fn have_many_codes(tables: &RowTables<'_>, text: &[u8], limit: u64) -> bool
+    requires { ManyReady (pair_given tables.now) tables.now.rows.n text.now }
+    ensures { ManyIs (pair_given tables.now) tables.now.rows.n text.now limit result }
 {
     let mut codes = [0u32; 512];
     let mut counts = [0u32; 513];
     let mut many = 0;
     for i in 0..text.len() {
-        let code = end_code_at(
-            file,
-            places,
-            lefts,
-            rights,
-            area,
-            n,
-            text,
-            i,
-            &codes,
-            Side::Append,
-        );
+        let code = end_code_at(tables, Side::Append, text, i, &codes);
         codes[i] = code;
-        let count = counts[bytes_before(file, places, n, i + 1, code)] + 1;
+        let count = counts[bytes_before(&tables.rows, i + 1, code)] + 1;
         counts[i + 1] = count;
         many = one_more(many, count, limit);
         if many == 64 {
@@ -109,19 +90,9 @@ fn have_many_codes(
 // Whether the places up to 64 behind an encoder's show that the text is over. It is asked where the seams said nothing
 // 64 times. A place costs as much as a step or more, so the places are looked at only if many of the last 64 steps took
 // a code back, and if they are no more than an eighth of the text.
-fn is_over_ahead(
-    file: &[u8],
-    places: &[u32],
-    lefts: &[u32],
-    rights: &[u32],
-    area: &[u32],
-    n: usize,
-    text: &[u8],
-    encoder: BacktrackEncoder,
-    limit: u64,
-) -> bool
-    requires { AheadReady (pair_given file places lefts rights area) n text.now encoder limit }
-    ensures { OverIs (pair_lent file places lefts rights area) n text.now limit result }
+fn is_over_ahead(tables: &RowTables<'_>, text: &[u8], encoder: BacktrackEncoder, limit: u64) -> bool
+    requires { AheadReady (pair_given tables.now) tables.now.rows.n text.now encoder limit }
+    ensures { OverIs (pair_given tables.now) tables.now.rows.n text.now limit result }
 {
     if limit + 40 < encoder.count as u64 {
         return false;
@@ -130,47 +101,36 @@ fn is_over_ahead(
     if text.len() < 8 * end {
         return false;
     }
-    have_many_codes(file, places, lefts, rights, area, n, &text[..end], limit)
+    have_many_codes(tables, &text[..end], limit)
 }
 
 // The number of codes of a text, or None for "over".
 pub fn count_till_limit_core(
-    file: &[u8],
-    places: &[u32],
-    lefts: &[u32],
-    rights: &[u32],
-    prefixes: &[u32],
-    area: &[u32],
-    n: usize,
+    tables: &RowTables<'_>,
     text: &[u8],
     limit: u64,
     work: &mut [u32],
 ) -> Option<usize>
-    requires { TextReady (given file places lefts rights prefixes area) n text.now work.old }
-    ensures { LimitedIs (lent file places lefts rights prefixes area)
-        n text.now limit work.old result work.new }
+    requires { TextReady (given tables.now) tables.now.rows.n text.now work.old }
+    ensures { LimitedIs (given tables.now) tables.now.rows.n text.now limit work.old result work.new }
 {
-    let mut alive = all_set();
-    let mut encoder = start(file, places, area, n, text);
+    let mut alive = BitField::new();
+    let mut encoder = start(&tables.rows, tables.area, text);
     let mut asked = 0usize;
     for _done in 0..2 * text.len() {
         if encoder.next == NONE {
             return within(encoder.count, limit);
         }
         if limit <= encoder.count as u64 {
-            if stay_now(area, text, encoder.pos, asked) {
+            if stay_now(tables.area, text, encoder.pos, asked) {
                 return None;
             }
             asked += 1;
-            if asked == 64
-                && is_over_ahead(file, places, lefts, rights, area, n, text, encoder, limit)
-            {
+            if asked == 64 && is_over_ahead(tables, text, encoder, limit) {
                 return None;
             }
         }
-        encoder = step(
-            file, places, lefts, rights, prefixes, area, n, text, encoder, work, &mut alive,
-        );
+        encoder = step(tables, text, encoder, work, &mut alive);
     }
     within(encoder.count, limit)
 }

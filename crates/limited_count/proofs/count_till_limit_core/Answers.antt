@@ -6,7 +6,7 @@ use Rattle.limited_count.proofs.Limiting.{limiting_start, limiting_ahead, limiti
 use Rattle.limited_count.proofs.count_till_limit_core.Goals as goal
 
 pub loop-done-init : goal.loop-done-init
-loop-done-init c = limiting_start _ _ _ _ _ _ _ (running-start _ _ _ _ _ _ c.requires c.start-encoder.ensures c.all_set-alive.ensures)
+loop-done-init c = limiting_start _ _ _ _ _ _ _ (running-start _ _ _ _ _ _ c.requires c.start-encoder.ensures c.new-alive.ensures)
 
 pub returns-then-encoder : goal.returns-then-encoder
 returns-then-encoder c = limiting_end _ _ _ _ _ _ _ _ _ _ c.loop-done.invariant (λ i. (c.type_inv.text i).fits) _ (inr c.if-encoder.true) c.within.ensures

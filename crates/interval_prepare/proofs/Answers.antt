@@ -1,5 +1,5 @@
 -- The cases of the refusals of preparation, and what holds where there is none. Assumes nothing.
-use mathlib.Core.Path.{◌≡◌, refl, sym, ◌∙◌}
+use mathlib.Core.Path.{◌≡◌, refl, sym, subst, ◌∙◌}
 use mathlib.Core.Option.{none, some}
 use mathlib.Core.Logic.{⊎_elim}
 use mathlib.Core.List.{List}
@@ -11,16 +11,16 @@ use lib.Dec.{leb}
 use borrow.Author.Tests.{lt-ltb, le-ltb, le-leb, lt-leb, ltb-false}
 use Rattle.causes.specs.declared.Cause.{Cause}
 use Rattle.causes.specs.declared.Cause.TheVariants.{TooShort, OutOfForm, TooLong}
-use Rattle.causes.specs.declared.Answer.TheVariants.{Number, Refused}
+use Rattle.std.specs.Prelude.{Option, None, Ok, Err}
 use Rattle.causes.specs.Order.{shorter}
 use Rattle.causes.specs.Call.{to_number}
 use Rattle.causes.proofs.Calls.{call-refused, call-given}
 use Rattle.causes.proofs.None.{neither}
 use Rattle.phrase_file.specs.Form.{rows}
 use Rattle.phrase_file.proofs.Checks.{accepted}
-use Rattle.tables.specs.Tables.{Tables, without_prefixes}
-use Rattle.tables.specs.declared.Form.{Form}
-use Rattle.tables.specs.declared.Form.TheVariants.{Rows, Out}
+use Rattle.tables.specs.Tables.{Tables, without_prefixes, given, pair_given}
+use Rattle.tables.specs.declared.row_tables.RowTables.{RowTables}
+use Rattle.tables.specs.Formed.{Formed}
 use Rattle.tables.specs.InForm.{form_of}
 use Rattle.tables.proofs.Readiness.{ready}
 use Rattle.theory.proofs.Lists.{lt_or_ge}
@@ -93,36 +93,39 @@ long-enough text last_codes numbers ends depths work e =
 module _ (T : Tables) (text last_codes numbers ends depths work : List ℕ) where
   open T use {file, prefixes}
 
-  abbrev form : Form
+  abbrev form : Option ℕ
   form = form_of T
 
   refused : (cause : Cause) → prepare_refusal T text last_codes numbers ends depths work ≡ some cause
-      → Prepares T text last_codes numbers ends depths work last_codes numbers ends depths work (Refused cause)
+      → Prepares T text last_codes numbers ends depths work last_codes numbers ends depths work (Err cause)
   refused cause e =
       call-refused to_number e 0
       (record { last_codes_are = refl; numbers_same = refl; ends_same = refl; depths_same = refl; work_same = refl })
 
   pub refused-long : 4096 < length text
-      → Prepares T text last_codes numbers ends depths work last_codes numbers ends depths work (Refused TooLong)
+      → Prepares T text last_codes numbers ends depths work last_codes numbers ends depths work (Err TooLong)
   unfolding prepare_refusal
   refused-long h = refused TooLong (rw (lt-ltb 4096 (length text) h))
 
   module _ (short : length text ≤ 4096) where
     pub refused-short : too_short text last_codes numbers ends depths work ≡ true
-        → Prepares T text last_codes numbers ends depths work last_codes numbers ends depths work (Refused TooShort)
+        → Prepares T text last_codes numbers ends depths work last_codes numbers ends depths work (Err TooShort)
     unfolding prepare_refusal
     refused-short e = refused TooShort (rw (le-ltb 4096 (length text) short, e))
 
     module _ (room : too_short text last_codes numbers ends depths work ≡ false) where
-      pub refused_out : form ≡ Out
-          → Prepares T text last_codes numbers ends depths work last_codes numbers ends depths work (Refused OutOfForm)
+      pub refused_out : form ≡ None
+          → Prepares T text last_codes numbers ends depths work last_codes numbers ends depths work (Err OutOfForm)
       unfolding prepare_refusal
       refused_out e = refused OutOfForm (rw (le-ltb 4096 (length text) short, room, e))
 
-      module _ (n : ℕ) (e : form ≡ Rows n) where
-        pub core_ready : CoreReady (without_prefixes T) n text last_codes numbers ends depths work
+      module _ (t : RowTables) (F : Formed T t) where
+        abbrev n : ℕ
+        n = t.rows.n
+
+        pub core_ready : CoreReady (pair_given t) n text last_codes numbers ends depths work
         core_ready =
-            let K = ready T n e in
+            let K = ready (given t) n (rw F.same F.formed) in
             let r = long-enough text last_codes numbers ends depths work room in
             record {
               is_in_form = record { places_ready = K.places_ready; parts_ready = K.parts_ready; area_room = K.area_room };
@@ -136,13 +139,14 @@ module _ (T : Tables) (text last_codes numbers ends depths work : List ℕ) wher
 
         none-refused : prepare_refusal T text last_codes numbers ends depths work ≡ none
         unfolding prepare_refusal
-        none-refused = rw (le-ltb 4096 (length text) short, room, e)
+        none-refused = rw (le-ltb 4096 (length text) short, room, F.formed)
 
         pub prepared : (lastCodes' numbers' ends' depths' work' : List ℕ)
-            → CorePrepares (without_prefixes T) n text last_codes numbers ends depths work lastCodes' numbers' ends' depths' work'
-            → Prepares T text last_codes numbers ends depths work lastCodes' numbers' ends' depths' work' (Number (length text))
-        prepared lastCodes' numbers' ends' depths' work' C =
-            let rows_are : n ≡ length (rows file) = (ready T n e).places_ready.count in
+            → CorePrepares (pair_given t) n text last_codes numbers ends depths work lastCodes' numbers' ends' depths' work'
+            → Prepares T text last_codes numbers ends depths work lastCodes' numbers' ends' depths' work' (Ok (length text))
+        prepared lastCodes' numbers' ends' depths' work' K =
+            let C = subst (λ (X : Tables). CorePrepares (without_prefixes X) n text last_codes numbers ends depths work lastCodes' numbers' ends' depths' work') F.same K in
+            let rows_are : n ≡ length (rows file) = (ready T n F.formed).places_ready.count in
             call-given to_number none-refused (length text) (record {
               number_is = refl;
               filled = rw (← rows_are) C.filled;

@@ -7,41 +7,21 @@ use Prim.Native.Nat.{ℕ, zero, suc, ◌+◌, ◌-◌, ◌≤◌, ◌<◌}
 use native.Mathlib.Omega.{arith}
 use lib.ListN.{length, get_or, take}
 use lib.Dec.{eqb}
-use Rattle.placed_rows.specs.Rows.{row}
 use Rattle.theory.specs.Table.{last_code}
 use Rattle.theory.specs.Tree.{above_in, size_below, children_below, number_in, number, end, parent_of}
 use Rattle.theory.proofs.Lists.{lt_or_ge, bool_cases, ltb_lt, ltb_ge}
 use Rattle.built_tables.specs.Built.{dictionary_of}
 use Rattle.end_code.specs.Tables.{RowReady}
-use Rattle.end_code.proofs.Sizes.{row-some, read-size}
-use Rattle.interval_prepare.specs.Steps.{parent_in, RowTable, ParentReady}
+use Rattle.end_code.proofs.Sizes.{row-some}
+use Rattle.interval_prepare.specs.Steps.{parent_in, RowTable}
 
 module _ (file places : List ℕ) (n m : ℕ) (codes : List ℕ) (R : RowTable file places n m codes) where
   pub row-ready : (i : ℕ) → 0 < i → i ≤ m → RowReady file places n (get_or codes (i - 1) 0)
   row-ready i z h = record { places_ready = R.places_ready; row = R.rows.rows (i - 1) (omega arith) }
 
-  pub parent-ready : (i : ℕ) → 0 < i → i ≤ m → ParentReady file places n codes i
-  parent-ready i z h = record {
-    rows = record { places_ready = R.places_ready; rows = record { room = omega (arith, R.rows.room); rows = λ j l. R.rows.rows j (omega arith) } };
-    some = z;
-  }
-
   pub lower : (i : ℕ) → 0 < i → i ≤ m → parent_in file codes i < i
   unfolding parent_in
   lower i z h = omega (arith, row-some file places n (get_or codes (i - 1) 0) (row-ready i z h))
-
--- the parent as it is read
-module _ (file places : List ℕ) (n : ℕ) (codes : List ℕ) (i : ℕ) (R : ParentReady file places n codes i) (x len : ℕ) (e : len ≡ length (row file places n x)) (f : x ≡ get_or codes (i - 1) 0) where
-  len_is : len ≡ length ((dictionary_of file).bytes (get_or codes (i - 1) 0))
-  len_is = read-size file places n (get_or codes (i - 1) 0) x len (row-ready file places n i codes R.rows i R.some (omega arith)) e f
-
-  pub parent-long : i < len → 0 ≡ parent_in file codes i
-  unfolding parent_in
-  parent-long h = omega (arith, len_is)
-
-  pub parent_is : len ≤ i → i - len ≡ parent_in file codes i
-  unfolding parent_in
-  parent_is h = omega (arith, len_is)
 
 -- behind true last codes
 pub parent-true : (file text codes : List ℕ) → ((i : ℕ) → i < length text → get_or codes i 0 ≡ last_code (dictionary_of file) (take (suc i) text))

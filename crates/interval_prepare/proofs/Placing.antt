@@ -13,8 +13,8 @@ use borrow.Author.Tests.{eqb-true, eqb-false}
 use Rattle.theory.specs.Tree.{number}
 use Rattle.theory.proofs.Lists.{bool_cases}
 use Rattle.theory.proofs.Tree.{tree_ind, number-le, running_end, running_end-start, running_end-child, running_end-hit, running_end_miss, running_end-all, running_end-le}
-use Rattle.interval_prepare.specs.Steps.{parent_in, ParentReady, ChildReady, ChildPlaced, TreeReady, WrittenTo, TreeIs}
-use Rattle.interval_prepare.proofs.Parents.{parent-ready, lower}
+use Rattle.interval_prepare.specs.Steps.{parent_in, ChildReady, ChildPlaced, TreeReady, WrittenTo, TreeIs}
+use Rattle.interval_prepare.proofs.Parents.{lower}
 
 -- what one store leaves
 pub stored : (m : ℕ) (table₀ table : List ℕ) (i v : ℕ) → i ≤ m → WrittenTo m table₀ table → WrittenTo m table₀ (set table i v)
@@ -52,9 +52,6 @@ module _ (file places : List ℕ) (n m : ℕ) (codes work numbers₀ ends₀ dep
     lw = low P.ready
 
     module _ (h : i ≤ m) where
-      pub placing_parent : ParentReady file places n codes i
-      placing_parent = parent-ready file places n m codes P.ready.rows i P.some h
-
       module _ (q s : ℕ) (e : q ≡ parent i) (f : s ≡ get_or work (i - 1) 0) where
         below : q < i
         below = omega (arith, lw i P.some h)

@@ -18,8 +18,8 @@ use Rattle.tables.proofs.Sweeps.{each_all}
 use Rattle.built_tables.specs.Built.{dictionary_of, Built}
 use Rattle.built_tables.proofs.Rows.{lawful-is}
 use Rattle.end_code.specs.Tables.{RowsTo}
-use Rattle.table_encoder.specs.LastCodes.{PrefixesReady, PrefixesAre}
-use Rattle.interval_prepare.specs.Steps.{parent_in, RowTable, SizesReady, SizesAre, TreeReady, TreeIs}
+use Rattle.table_encoder.specs.LastCodes.{PrefixesAre}
+use Rattle.interval_prepare.specs.Steps.{parent_in, RowTable, SizesAre, TreeIs}
 use Rattle.built_tables.specs.IntervalTables.{Prepared, codes_in_form, tree_in_form, interval_in_form}
 use Rattle.interval_prepare.specs.Answers.{CoreReady, CorePrepares}
 use Rattle.interval_prepare.proofs.Parents.{lower, parent-true, number_same, end_same}
@@ -40,9 +40,6 @@ tree_in_form_lem text table room few =
 module _ (P : PairTables) (n : ℕ) (text codes numbers ends depths work : List ℕ) (R : CoreReady P n text codes numbers ends depths work) where
   open P use {file, places}
 
-  pub codes_ready : PrefixesReady P n text codes
-  codes_ready = record { is_in_form = R.is_in_form; room = R.codes_room }
-
   module _ (codes' : List ℕ) (Q : PrefixesAre P n text codes codes') where
     codes_room : length text ≤ length codes'
     codes_room = omega (arith, Q.same_length, R.codes_room)
@@ -50,21 +47,7 @@ module _ (P : PairTables) (n : ℕ) (text codes numbers ends depths work : List 
     row_table : RowTable file places n (length text) codes'
     row_table = record { places_ready = R.is_in_form.places_ready; rows = record { room = codes_room; rows = Q.rows } }
 
-    pub sizes-ready : SizesReady file places n (length text) codes' work
-    sizes-ready = record { rows = row_table; short = R.short; room = R.work_room }
-
     module _ (work' : List ℕ) (S : SizesAre file (length text) codes' work work') where
-      pub tree_ready : TreeReady file places n (length text) codes' work' numbers ends depths
-      tree_ready = record {
-        rows = row_table;
-        short = R.short;
-        sizes_room = omega (arith, S.same_length, R.work_room);
-        sizes = S.sizes;
-        numbers_room = R.numbers_room;
-        ends_room = R.ends_room;
-        depths_room = R.depths_room;
-      }
-
       module _ (numbers' ends' depths' : List ℕ) (T : TreeIs file (length text) codes' numbers ends depths numbers' ends' depths') where
         low : (i : ℕ) → 0 < i → i ≤ length text → parent_in file codes' i < i
         low = lower file places n (length text) codes' row_table

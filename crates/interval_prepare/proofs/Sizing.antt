@@ -1,9 +1,7 @@
 -- The sizes of the prefixes: from 1 for each, the size of each is added to its parent's, from the longest prefix on. Assumes nothing.
 use mathlib.Core.Path.{◌≡◌, refl, sym, ap, ◌∙◌}
-use mathlib.Core.Logic.{⊎_elim}
 use mathlib.Core.List.{List}
 use Prim.Native.Nat.{ℕ, zero, suc, ◌+◌, ◌-◌, ◌≤◌, ◌<◌}
-use native.Mathlib.Nat.{eq-or-lt_of_le}
 use native.Mathlib.Omega.{arith}
 use lib.ListN.{length, length-set, get_or, set, drop}
 use lib.Dec.{eqb}
@@ -11,35 +9,8 @@ use borrow.Author.Tests.{eqb-true, eqb-false}
 use lib.Seq.{get_or-set_same, get_or-set_other, drop-set-lt}
 use Rattle.theory.proofs.Lists.{bool_cases}
 use Rattle.theory.proofs.Tree.{size_from, size_from-start, size_from-hit, size_from_miss, size_from-all, size_from-le}
-use Rattle.interval_prepare.specs.Steps.{parent_in, ParentReady, OnesReady, Ones, AddReady, added, SizesReady, SizesAre}
-use Rattle.interval_prepare.proofs.Parents.{parent-ready, lower}
-
-module _ (m : ℕ) (work₀ : List ℕ) where
-  -- the first i numbers are 1
-  pub record Filling (i : ℕ) (work : List ℕ) : Type 0 where
-    pub ready : OnesReady m work₀
-    pub within : i ≤ m
-    pub same_length : length work ≡ length work₀
-    pub beyond : drop m work ≡ drop m work₀
-    pub ones : (p : ℕ) → p < i → get_or work p 0 ≡ 1
-
-  pub filling_start : OnesReady m work₀ → Filling 0 work₀
-  filling_start R = record { ready = R; within = omega arith; same_length = refl; beyond = refl; ones = λ p h. absurd (omega arith) }
-
-  pub filling_more : (i : ℕ) (work : List ℕ) → Filling i work → i < m → Filling (i + 1) (set work i 1)
-  filling_more i work F h = record {
-    ready = F.ready;
-    within = omega arith;
-    same_length = length-set work i 1 ∙ F.same_length;
-    beyond = drop-set-lt m work i 1 h ∙ F.beyond;
-    ones = λ p l. ⊎_elim
-        (λ e. let z : p ≡ i = omega arith in rw z (get_or-set_same work i 1 0 (omega (arith, F.same_length, F.ready.room))))
-        (λ k. get_or-set_other work i p 1 0 (λ z. absurd (omega arith)) ∙ F.ones p (omega arith))
-        (eq-or-lt_of_le l);
-  }
-
-  pub filling_end : (i : ℕ) (work : List ℕ) → Filling i work → m ≤ i → Ones m work₀ work
-  filling_end i work F h = record { same_length = F.same_length; beyond = F.beyond; ones = λ p l. F.ones p (omega arith) }
+use Rattle.interval_prepare.specs.Steps.{parent_in, Ones, AddReady, added, SizesReady, SizesAre}
+use Rattle.interval_prepare.proofs.Parents.{lower}
 
 -- what is added
 module _ (i : ℕ) (work : List ℕ) where
@@ -109,9 +80,6 @@ module _ (file places : List ℕ) (n m : ℕ) (codes work₀ : List ℕ) where
         }
 
     module _ (z : 0 < i) where
-      pub sizing_parent : ParentReady file places n codes i
-      sizing_parent = parent-ready file places n m codes S.ready.rows i z S.within
-
       module _ (q : ℕ) (e : q ≡ parent i) where
         below : q < i
         below = omega (arith, low S.ready i z S.within)

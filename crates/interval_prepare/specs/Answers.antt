@@ -1,9 +1,8 @@
 -- What preparation of document 01 leaves and answers.
-use Rattle.std.specs.Prelude.{◌≡◌, List, [], ◌∷◌, Bool, true, ◌||◌, ℕ, ◌+◌, ◌≤◌, ◌<◌, length, drop, ltb}
+use Rattle.std.specs.Prelude.{◌≡◌, List, [], ◌∷◌, Bool, true, ◌||◌, ℕ, ◌+◌, ◌≤◌, ◌<◌, length, drop, ltb, Result}
 use Rattle.std.proofs.Math.Option.{Option}
 use Rattle.causes.specs.declared.Cause.{Cause}
 use Rattle.causes.specs.declared.Cause.TheVariants.{TooShort, OutOfForm, TooLong}
-use Rattle.causes.specs.declared.Answer.{Answer}
 use Rattle.causes.specs.Order.{other_order, when, over, shorter, first_of}
 use Rattle.causes.specs.Call.{Call, to_number}
 use Rattle.phrase_file.specs.Form.{rows}
@@ -82,7 +81,7 @@ module _ (T : Tables) (text last_codes numbers ends depths work : List ℕ) wher
     pub built : (n : ℕ) → Built T n → Prepared T.file text lastCodes' numbers' ends' depths'
 
   -- `IntervalEncoding::new`: a refusal leaves all buffers as they were
-  abbrev pub Prepares : (lastCodes' numbers' ends' depths' work' : List ℕ) → Answer → Type 0
+  abbrev pub Prepares : (lastCodes' numbers' ends' depths' work' : List ℕ) → Result ℕ Cause → Type 0
   Prepares lastCodes' numbers' ends' depths' work' r =
       Call to_number prepare_refusal
       (λ cause. Unchanged last_codes numbers ends depths work lastCodes' numbers' ends' depths' work')

@@ -6,23 +6,20 @@ ghost use Rattle.interval_prepare.specs.Steps.{parent_in, ParentReady, OnesReady
 ghost use Rattle.interval_prepare.specs.Steps.{SizesReady, SizesAre, ChildReady, ChildPlaced, TreeReady};
 ghost use Rattle.interval_prepare.specs.Steps.{TreeIs};
 ghost use Rattle.interval_prepare.specs.Answers.{too_short, CoreReady, CorePrepares, Prepares};
-ghost use Rattle.tables.specs.Tables.{lent, pair_given, pair_lent, before, after};
+ghost use Rattle.tables.specs.Tables.{lent, pair_given};
 
-use causes::{Answer, Cause};
-use placed_rows::{length_of, wide};
+use causes::Cause;
+use end_code::bytes_before;
+use placed_rows::Rows;
 use table_encoder::encode_all_prefixes;
-use tables::Form;
+use tables::{RowTables, Tables};
 
 // The length of the parent of the prefix of i bytes: the prefix without its last code; 0 where the code is longer.
-fn parent_of(file: &[u8], places: &[u32], n: usize, last_codes: &[u32], i: usize) -> usize
-    requires { ParentReady file.now places.now n last_codes.now i }
-    ensures { result ≡ parent_in file.now last_codes.now i }
+fn parent_of(rows: &Rows<'_>, last_codes: &[u32], i: usize) -> usize
+    requires { let r = rows.now in ParentReady r.file.now r.places.now r.n last_codes.now i }
+    ensures { result ≡ parent_in rows.now.file.now last_codes.now i }
 {
-    let len = length_of(file, places, n, wide(last_codes[i - 1]));
-    if i < len {
-        return 0;
-    }
-    i - len
+    bytes_before(rows, i, last_codes[i - 1])
 }
 
 // The first m entries of the work buffer are 1.
@@ -30,11 +27,7 @@ fn fill_ones(m: usize, work: &mut [u32])
     requires { OnesReady m work.old }
     ensures { Ones m work.old work.new }
 {
-    let mut i = 0;
-    while i < m {
-        work[i] = 1;
-        i += 1;
-    }
+    work[..m].fill(1);
 }
 
 // Adds the size of prefix i to that of its parent. That of the empty prefix is not kept.
@@ -49,17 +42,14 @@ fn add_size(i: usize, parent: usize, work: &mut [u32])
 }
 
 // The size of each prefix but the empty one: how many are that prefix or below it. Entry i - 1 is that of prefix i.
-fn fill_sizes(file: &[u8], places: &[u32], n: usize, m: usize, last_codes: &[u32], work: &mut [u32])
-    requires { SizesReady file.now places.now n m last_codes.now work.old }
-    ensures { SizesAre file.now m last_codes.now work.old
-        work.new }
+fn fill_sizes(rows: &Rows<'_>, m: usize, last_codes: &[u32], work: &mut [u32])
+    requires { let r = rows.now in SizesReady r.file.now r.places.now r.n m last_codes.now work.old }
+    ensures { SizesAre rows.now.file.now m last_codes.now work.old work.new }
 {
     fill_ones(m, work);
-    let mut i = m;
-    while 0 < i {
-        let parent = parent_of(file, places, n, last_codes, i);
+    for i in (1..m + 1).rev() {
+        let parent = parent_of(rows, last_codes, i);
         add_size(i, parent, work);
-        i -= 1;
     }
 }
 
@@ -84,10 +74,9 @@ fn place_child(
 }
 
 // Tree number, tree end and depth of each prefix, from the sizes.
+// Kept: no plainer: a struct of the three tables lent to be written needs a clause for each that it is the same borrow.
 fn fill_tree(
-    file: &[u8],
-    places: &[u32],
-    n: usize,
+    rows: &Rows<'_>,
     m: usize,
     last_codes: &[u32],
     work: &[u32],
@@ -95,30 +84,23 @@ fn fill_tree(
     ends: &mut [u32],
     depths: &mut [u32],
 )
-    requires { TreeReady file.now places.now n m last_codes.now work.now numbers.old ends.old
-        depths.old }
-    ensures { TreeIs file.now m last_codes.now numbers.old
-        ends.old depths.old numbers.new ends.new depths.new }
+    requires { let r = rows.now in TreeReady r.file.now r.places.now r.n m last_codes.now work.now numbers.old
+        ends.old depths.old }
+    ensures { TreeIs rows.now.file.now m last_codes.now numbers.old ends.old depths.old numbers.new ends.new
+        depths.new }
 {
     numbers[0] = 0;
     ends[0] = 1;
     depths[0] = 0;
-    let mut i = 1;
-    while i <= m {
-        let parent = parent_of(file, places, n, last_codes, i);
+    for i in 1..m + 1 {
+        let parent = parent_of(rows, last_codes, i);
         place_child(i, parent, work[i - 1], numbers, ends, depths);
-        i += 1;
     }
 }
 
 // Last code, tree number, tree end and depth of each prefix of a text, over tables in form.
 pub fn prepare_core(
-    file: &[u8],
-    places: &[u32],
-    lefts: &[u32],
-    rights: &[u32],
-    area: &[u32],
-    n: usize,
+    tables: &RowTables<'_>,
     text: &[u8],
     last_codes: &mut [u32],
     numbers: &mut [u32],
@@ -126,16 +108,15 @@ pub fn prepare_core(
     depths: &mut [u32],
     work: &mut [u32],
 )
-    requires { CoreReady (pair_given file places lefts rights area) n text.now last_codes.old numbers.old
+    requires { CoreReady (pair_given tables.now) tables.now.rows.n text.now last_codes.old numbers.old
         ends.old depths.old work.old }
-    ensures { CorePrepares (pair_lent file places lefts rights area) n text.now last_codes.old
-        numbers.old ends.old depths.old work.old last_codes.new numbers.new
-        ends.new depths.new work.new }
+    ensures { CorePrepares (pair_given tables.now) tables.now.rows.n text.now last_codes.old numbers.old
+        ends.old depths.old work.old last_codes.new numbers.new ends.new depths.new work.new }
 {
     let m = text.len();
-    encode_all_prefixes(file, places, lefts, rights, area, n, text, last_codes);
-    fill_sizes(file, places, n, m, last_codes, work);
-    fill_tree(file, places, n, m, last_codes, work, numbers, ends, depths);
+    encode_all_prefixes(tables, text, last_codes);
+    fill_sizes(&tables.rows, m, last_codes, work);
+    fill_tree(&tables.rows, m, last_codes, work, numbers, ends, depths);
 }
 
 // Whether a buffer is too short: last codes and work need one number per byte, the tree tables one more.
@@ -167,34 +148,24 @@ fn is_too_short(
 
 // Prepares the interval tables of a text: the source's `IntervalEncoding::new`. The answer is the text's length.
 pub fn prepare(
-    file: &[u8],
-    places: &[u32],
-    lefts: &[u32],
-    rights: &[u32],
-    prefixes: &[u32],
-    area: &[u32],
+    tables: &Tables<'_>,
     text: &[u8],
     last_codes: &mut [u32],
     numbers: &mut [u32],
     ends: &mut [u32],
     depths: &mut [u32],
     work: &mut [u32],
-) -> Answer
-    ensures { Prepares (lent file places lefts rights prefixes area)
-        text.now last_codes.old numbers.old ends.old depths.old work.old
+) -> Result<usize, Cause>
+    ensures { Prepares (lent tables.now) text.now last_codes.old numbers.old ends.old depths.old work.old
         last_codes.new numbers.new ends.new depths.new work.new result }
 {
     if 4096 < text.len() {
-        return Answer::Refused(Cause::TooLong);
+        return Err(Cause::TooLong);
     }
     if is_too_short(text, last_codes, numbers, ends, depths, work) {
-        return Answer::Refused(Cause::TooShort);
+        return Err(Cause::TooShort);
     }
-    let Form::Rows(n) = tables::tables_in_form(file, places, lefts, rights, prefixes, area) else {
-        return Answer::Refused(Cause::OutOfForm);
-    };
-    prepare_core(
-        file, places, lefts, rights, area, n, text, last_codes, numbers, ends, depths, work,
-    );
-    Answer::Number(text.len())
+    let tables = tables::in_form(tables).ok_or(Cause::OutOfForm)?;
+    prepare_core(&tables, text, last_codes, numbers, ends, depths, work);
+    Ok(text.len())
 }

@@ -1,17 +1,7 @@
--- The length read is that of the dictionary's row. Assumes nothing.
-use Prim.Native.Nat.{◌-◌}
-use native.Mathlib.Omega.{arith}
-use Rattle.interval_prepare.proofs.Parents.{parent-long, parent_is}
+-- The parent is what is before the last code. Assumes nothing.
+use Rattle.interval_prepare.specs.Steps.{parent_in}
 use Rattle.interval_prepare.proofs.parent_of.Goals as goal
 
-pub length_of-len-requires : goal.length_of-len-requires
-length_of-len-requires c =
-    let p = c.requires in
-    let r = p.rows.rows.rows (c.args.i - 1) (omega (arith, p.some)) in
-    record { placed = p.rows.places_ready.placed; c_lt_n = omega (arith, c.wide.ensures.is) }
-
-pub returns-then-i-len : goal.returns-then-i-len
-returns-then-i-len c = parent-long _ _ _ _ _ c.requires _ _ c.length_of-len.ensures.is c.wide.ensures.is c.if-i-len.true
-
 pub returns : goal.returns
-returns c = parent_is _ _ _ _ _ c.requires _ _ c.length_of-len.ensures.is c.wide.ensures.is c.if-i-len.false
+unfolding parent_in
+returns c = c.bytes_before.ensures

@@ -1,17 +1,21 @@
 -- The first code that is not below n. Assumes nothing.
-use mathlib.Core.Path.{◌≡◌, refl, ap, ◌∙◌}
+use mathlib.Core.Path.{◌≡◌, refl, sym, ap, ◌∙◌}
+use mathlib.Core.Logic.{⊎_elim}
 use mathlib.Core.List.{List, [], ◌∷◌}
-use mathlib.Core.Bool.{Bool, true, false}
+use mathlib.Core.Bool.{Bool, true, false, cond}
 use Prim.Native.Nat.{ℕ, zero, suc, ◌+◌, ◌≤◌, ◌<◌}
-use native.Mathlib.Numerals.{add-one}
 use native.Mathlib.Omega.{arith}
-use lib.ListN.{length, get_or, drop}
-use lib.Seq.{drop-cons}
+use lib.ListN.{length, get_or}
 use lib.Dec.{ltb}
-use borrow.Author.Tests.{ltb-true, ltb-false}
+use borrow.Author.Tests.{ltb-true, ltb-false, lt-ltb, le-ltb}
+use Rattle.std.specs.Prelude.{Option, None, Some, nat_lt, nat_le, position}
+use Rattle.std.specs.List.{position_or_len}
+use Rattle.std.proofs.lemmas.Bool.{lt-leb, le-leb}
+use Rattle.std.proofs.lemmas.List.Recursion.{is_position_or_len}
+use Rattle.theory.proofs.Lists.{lt_or_ge}
 use Rattle.theory.specs.Dictionary.{Dictionary, AllRows}
 use Rattle.causes.specs.Order.{first_unknown}
-use Rattle.causes.proofs.Unknown.{unknown-first, unknown-behind}
+use Rattle.causes.proofs.Unknown.{unknown-first, unknown-behind, unknown-none}
 
 module _ (n : ℕ) where
   -- what holds of it
@@ -54,29 +58,37 @@ module _ (n : ℕ) where
   known-all [] h = refl
   known-all (c ∷ codes) h = unknown-behind n c codes (h 0 (omega arith)) ∙ ap suc (known-all codes (λ i l. h (suc i) (omega arith)))
 
-  -- the search: i codes are passed
-  pub record Passed (codes : List ℕ) (i : ℕ) : Type 0 where
-    pub few : i ≤ length codes
-    pub is : first_unknown n codes ≡ i + first_unknown n (drop i codes)
+  -- the search by std's `position`
+  position_is : (codes : List ℕ) → first_unknown n codes ≡ position_or_len (nat_le n) codes
+  position_is = is_position_or_len (first_unknown n) (nat_le n) (unknown-none n) step
+    where
+      step : (c : ℕ) (codes : List ℕ) → first_unknown n (c ∷ codes) ≡ cond (nat_le n c) 0 (1 + first_unknown n codes)
+      step c codes = ⊎_elim
+          (λ h. unknown-behind n c codes h ∙ rw (lt-leb n c h) (omega arith))
+          (λ h. unknown-first n c codes h ∙ rw (le-leb n c h) refl)
+          (lt_or_ge c n)
 
-  pub passed_start : (codes : List ℕ) → Passed codes 0
-  passed_start codes = record { few = omega arith; is = omega arith }
+  -- an index below the length is given, and no other
+  given_below : (i m j : ℕ) → cond (nat_lt i m) (Some i) None ≡ Some j → (j ≡ i) × (i < m)
+  given_below i m j e = ⊎_elim
+      (λ h. let f : ◌≡◌ {A = Option ℕ} (Some i) (Some j) = rw (lt-ltb i m h) at e in let g : j ≡ i = cc in (g, h))
+      (λ h. absurd (let f : ◌≡◌ {A = Option ℕ} None (Some j) = rw (le-ltb i m h) at e in let z : ◌≡◌ {A = ℕ} 0 1 = cc in omega arith))
+      (lt_or_ge i m)
 
-  module _ (codes : List ℕ) (i : ℕ) (p : Passed codes i) where
-    pub passed-more : i < length codes → get_or codes i 0 < n → Passed codes (i + 1)
-    passed-more l h =
-        let e : first_unknown n (drop i codes) ≡ suc (first_unknown n (drop (i + 1) codes)) = rw (add-one, drop-cons codes i 0 l) (unknown-behind n (get_or codes i 0) (drop (suc i) codes) h) in
-        record { few = omega arith; is = omega (arith, p.is) }
+  given_nowhere : (i m : ℕ) → cond (nat_lt i m) (Some i) None ≡ None → m ≤ i
+  given_nowhere i m e = ⊎_elim
+      (λ h. absurd (let f : ◌≡◌ {A = Option ℕ} (Some i) None = rw (lt-ltb i m h) at e in let z : ◌≡◌ {A = ℕ} 0 1 = cc in omega arith))
+      (λ h. h)
+      (lt_or_ge i m)
 
-    pub passed-found : i < length codes → n ≤ get_or codes i 0 → i ≡ first_unknown n codes
-    passed-found l h =
-        let e : first_unknown n (drop i codes) ≡ 0 = rw (drop-cons codes i 0 l) (unknown-first n (get_or codes i 0) (drop (suc i) codes) h) in
-        omega (arith, p.is)
+  pub unknown_at : (codes : List ℕ) (i : ℕ) → position (nat_le n) codes ≡ Some i → (i ≡ first_unknown n codes) × (first_unknown n codes < length codes)
+  unknown_at codes i e =
+      let k = position_is codes in
+      let g = given_below (position_or_len (nat_le n) codes) (length codes) i e in
+      (g.0 ∙ sym k, rw k g.1)
 
-    pub passed-all : length codes ≤ i → i ≡ first_unknown n codes
-    passed-all l =
-        let f = (unknown-is codes).within in
-        omega (arith, p.is, p.few)
+  pub unknown_nowhere : (codes : List ℕ) → position (nat_le n) codes ≡ None → length codes ≤ first_unknown n codes
+  unknown_nowhere codes e = rw (position_is codes) (given_nowhere (position_or_len (nat_le n) codes) (length codes) e)
 
 -- the rows of a code list, one by one
 pub all_rows_are : (D : Dictionary) (codes : List ℕ) → AllRows D codes → (i : ℕ) → i < length codes → get_or codes i 0 < D.count

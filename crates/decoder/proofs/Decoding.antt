@@ -8,20 +8,21 @@ use lib.ListN.{length, get_or, drop}
 use borrow.Author.Tests.{lt-ltb, le-ltb}
 use Rattle.causes.specs.declared.Cause.{Cause}
 use Rattle.causes.specs.declared.Cause.TheVariants.{TooShort, OutOfForm, TooLong, UnknownCode}
-use Rattle.causes.specs.declared.Answer.TheVariants.{Number, Refused}
+use Rattle.std.specs.Prelude.{None, Some, Ok, Err, nat_le, position}
 use Rattle.causes.specs.Order.{first_unknown}
 use Rattle.causes.specs.Call.{to_number}
 use Rattle.causes.proofs.Calls.{call-refused, call-given}
 use Rattle.phrase_file.specs.Form.{rows}
 use Rattle.theory.specs.Dictionary.{spell}
 use Rattle.tables.specs.Tables.{Tables}
-use Rattle.tables.specs.declared.Form.TheVariants.{Rows, Out}
+use Rattle.tables.specs.declared.row_tables.RowTables.{RowTables}
 use Rattle.tables.specs.InForm.{form_of}
+use Rattle.tables.specs.Formed.{Formed}
 use Rattle.tables.proofs.Readiness.{ready}
 use Rattle.built_tables.specs.Built.{dictionary_of}
 use Rattle.decoder.specs.Decoding.{decode_refusal, Decodes}
 use Rattle.decoder.specs.Steps.{CodesReady}
-use Rattle.decoder.proofs.Codes.{all_known, known-all}
+use Rattle.decoder.proofs.Codes.{all_known, known-all, unknown_at, unknown_nowhere}
 use Rattle.decoder.proofs.Spelling.{row-bytes}
 
 module _ (T : Tables) (tokens out : List ℕ) where
@@ -35,11 +36,11 @@ module _ (T : Tables) (tokens out : List ℕ) where
 
   module _ (few : length tokens ≤ 4096) where
     -- 8
-    pub out_of_form : form_of T ≡ Out → decode_refusal T tokens out ≡ some OutOfForm
+    pub out_of_form : form_of T ≡ None → decode_refusal T tokens out ≡ some OutOfForm
     unfolding decode_refusal
     out_of_form e = rw (le-ltb 4096 (length tokens) few, e)
 
-    module _ (n : ℕ) (e : form_of T ≡ Rows n) where
+    module _ (n : ℕ) (e : form_of T ≡ Some n) where
       counted : n ≡ length (rows T.file)
       counted = (ready T n e).places_ready.count
 
@@ -74,17 +75,8 @@ module _ (T : Tables) (tokens out : List ℕ) where
               le-ltb (length out) (length spelled) h,
             )
 
--- codes that are not refused may be decoded
-pub codes_ready : (T : Tables) (tokens : List ℕ) (n : ℕ) → form_of T ≡ Rows n
-    → length tokens ≤ 4096 → length tokens ≤ first_unknown n tokens → CodesReady T.file T.places n tokens
-codes_ready T tokens n e f k = record {
-  places_ready = (ready T n e).places_ready;
-  few = f;
-  known = all_known n tokens k;
-}
-
 -- one code spells its row, as it stands in the file
-pub token_row : (T : Tables) (n token : ℕ) → form_of T ≡ Rows n → token < n
+pub token_row : (T : Tables) (n token : ℕ) → form_of T ≡ Some n → token < n
     → spell (dictionary_of T.file) (token ∷ []) ≡ get_or (rows T.file) token []
 token_row T n token e h =
     let P = (ready T n e).places_ready in
@@ -92,16 +84,58 @@ token_row T n token e h =
 
 module _ (T : Tables) (tokens out : List ℕ) where
   -- what a caller has to see to
-  pub decode_of : (n : ℕ) → form_of T ≡ Rows n → ((i : ℕ) → i < length tokens → get_or tokens i 0 < n) → length tokens ≤ 4096
+  pub decode_of : (n : ℕ) → form_of T ≡ Some n → ((i : ℕ) → i < length tokens → get_or tokens i 0 < n) → length tokens ≤ 4096
       → length (spelled T tokens out) ≤ length out → decode_refusal T tokens out ≡ none
   decode_of n e k f r = not_refused T tokens out f n e (omega (arith, known-all n tokens k)) r
 
   -- a refusal leaves the output
-  pub decodes_refused : (cause : Cause) → decode_refusal T tokens out ≡ some cause → Decodes T tokens out out (Refused cause)
+  pub decodes_refused : (cause : Cause) → decode_refusal T tokens out ≡ some cause → Decodes T tokens out out (Err cause)
   decodes_refused cause e = call-refused to_number e 0 refl
 
   -- else the bytes are written to the first part of the output, and counted
   pub decodes_none : (part : List ℕ) (size : ℕ) → decode_refusal T tokens out ≡ none → size ≡ length (spelled T tokens out)
-      → part ≡ spelled T tokens out → Decodes T tokens out (part ++ drop size out) (Number size)
+      → part ≡ spelled T tokens out → Decodes T tokens out (part ++ drop size out) (Ok size)
   decodes_none part size e s o =
       call-given to_number e size (record { size_is = s; output = ap (λ (w : List ℕ). w ++ drop size out) o })
+
+-- the cases of the call, where the tables are in form
+module _ (T : Tables) (tokens out : List ℕ) (few : length tokens ≤ 4096) (r : RowTables) (f : Formed T r) where
+  -- document 01's rows, as they are read
+  file_is : r.rows.file.now ≡ T.file
+  file_is = ap (λ (t : Tables). t.file) f.same
+
+  places_are : r.rows.places.now ≡ T.places
+  places_are = ap (λ (t : Tables). t.places) f.same
+
+  abbrev read : List ℕ
+  read = spell (dictionary_of r.rows.file.now) tokens
+
+  read-is : read ≡ spelled T tokens out
+  read-is = ap (λ (file : List ℕ). spell (dictionary_of file) tokens) file_is
+
+  pub decodes-unknown : (i : ℕ) → Some i ≡ position (nat_le r.rows.n) tokens → Decodes T tokens out out (Err (UnknownCode i))
+  decodes-unknown i e =
+      let u = unknown_at r.rows.n tokens i (sym e) in
+      decodes_refused T tokens out (UnknownCode i) (unknown-code T tokens out few r.rows.n f.formed u.1 ∙ ap (λ (k : ℕ). some (UnknownCode k)) (sym u.0))
+
+  module _ (k : None ≡ position (nat_le r.rows.n) tokens) where
+    known : length tokens ≤ first_unknown r.rows.n tokens
+    known = unknown_nowhere r.rows.n tokens (sym k)
+
+    pub codes_ready : CodesReady r.rows.file.now r.rows.places.now r.rows.n tokens
+    codes_ready = rw (file_is, places_are) (record {
+      places_ready = (ready T r.rows.n f.formed).places_ready;
+      few = few;
+      known = all_known r.rows.n tokens known;
+    })
+
+    module _ (size : ℕ) (s : size ≡ length read) where
+      size_is : size ≡ length (spelled T tokens out)
+      size_is = s ∙ ap length read-is
+
+      pub decodes-short : length out < size → Decodes T tokens out out (Err TooShort)
+      decodes-short h = decodes_refused T tokens out TooShort (short-output T tokens out few r.rows.n f.formed known (omega (arith, size_is)))
+
+      pub decodes-given : size ≤ length out → (part : List ℕ) → part ≡ read → Decodes T tokens out (part ++ drop size out) (Ok size)
+      decodes-given h part e =
+          decodes_none T tokens out part size (not_refused T tokens out few r.rows.n f.formed known (omega (arith, size_is))) size_is (e ∙ read-is)

@@ -1,13 +1,14 @@
 -- The bytes that codes spell, counted and written code by code. Assumes nothing.
 use mathlib.Core.Path.{◌≡◌, refl, sym, ap, ap₂, ◌∙◌}
 use mathlib.Core.List.{List, [], ◌∷◌, ◌++◌}
-use Prim.Native.Nat.{ℕ, zero, suc, ◌+◌, ◌-◌, ◌*◌, ◌≤◌, ◌<◌}
+use Prim.Native.Nat.{ℕ, ◌+◌, ◌-◌, ◌*◌, ◌≤◌, ◌<◌}
 use native.Mathlib.Numerals.{add-one}
 use native.Mathlib.Omega.{arith}
 use lib.ListN.{length, get_or, take, drop, length-append, length-drop, take-append-drop}
 use lib.Seq.{drop-cons, drop-length, take-suc, take_all, take_at, length-take-le, take-append-le, take-append-add}
 use Rattle.phrase_file.specs.Form.{rows}
-use Rattle.placed_rows.specs.Rows.{row}
+use Rattle.placed_rows.specs.Rows.{row, Placed}
+use Rattle.std.proofs.lemmas.List.{get_or_default}
 use Rattle.placed_rows.specs.Texts.{Begins}
 use Rattle.placed_rows.proofs.Placing.{row-whole}
 use Rattle.theory.specs.Dictionary.{Dictionary, spell}
@@ -16,36 +17,33 @@ use Rattle.theory.proofs.Stage as St
 use Rattle.theory.proofs.Neighbours.{spell_snoc}
 use Rattle.tables.specs.Ready.{PlacesReady}
 use Rattle.built_tables.specs.Built.{dictionary_of}
-use Rattle.decoder.specs.Steps.{CodesReady, RowRead, CopyReady, Copied}
-
-default : {A : Type 0} (l : List A) (i : ℕ) (d e : A) → i < length l → get_or l i d ≡ get_or l i e
-default [] i d e h = absurd (omega arith)
-default (x ∷ l) zero d e h = refl
-default (x ∷ l) (suc i) d e h = default l i d e (omega arith)
+use Rattle.decoder.specs.Steps.{CodesReady, CopyReady, Copied}
 
 -- a row as it is read through the places is a row of the dictionary
 pub row-bytes : (file placeTable : List ℕ) (n : ℕ) → PlacesReady file placeTable n → (c : ℕ) → c < n → row file placeTable n c ≡ (dictionary_of file).bytes c
 unfolding dictionary_of dictionary
 row-bytes file placeTable n P c h =
     let e = P.count in
-    P.rows_are c h ∙ default (rows file) c [] ((c - length (rows file)) ∷ []) (omega arith)
+    P.rows_are c h ∙ get_or_default (rows file) c [] ((c - length (rows file)) ∷ []) (omega arith)
 
--- the code at i as it is read: c is a row, with the bytes that the code spells
-pub record CodeRow (file placeTable : List ℕ) (n : ℕ) (codes : List ℕ) (i c : ℕ) : Type 0 where
-  pub below : c < n
-  pub bytes : row file placeTable n c ≡ (dictionary_of file).bytes (get_or codes i 0)
+-- the code at i is a row, with the bytes that it spells
+pub record CodeRow (file placeTable : List ℕ) (n : ℕ) (codes : List ℕ) (i : ℕ) : Type 0 where
+  pub below : get_or codes i 0 < n
+  pub bytes : row file placeTable n (get_or codes i 0) ≡ (dictionary_of file).bytes (get_or codes i 0)
 
-pub code_row : (file placeTable : List ℕ) (n : ℕ) (codes : List ℕ) → CodesReady file placeTable n codes → (i : ℕ) → i < length codes → (c : ℕ) → c ≡ get_or codes i 0
-    → CodeRow file placeTable n codes i c
-code_row file placeTable n codes R i h c e =
+pub code_row : (file placeTable : List ℕ) (n : ℕ) (codes : List ℕ) → CodesReady file placeTable n codes → (i : ℕ) → i < length codes
+    → CodeRow file placeTable n codes i
+code_row file placeTable n codes R i h =
     let k = R.known i h in
-    let b : c < n = omega arith in
-    record { below = b; bytes = row-bytes file placeTable n R.places_ready c b ∙ ap (dictionary_of file).bytes e }
+    record { below = k; bytes = row-bytes file placeTable n R.places_ready (get_or codes i 0) k }
 
 -- the file from the first byte of row c on
-module _ (file placeTable : List ℕ) (n c : ℕ) (r : RowRead file placeTable n c) (at : ℕ) (e : at ≡ get_or placeTable c 0) where
+module _ (file placeTable : List ℕ) (n c : ℕ) (placed : Placed file placeTable n) (below : c < n) where
+  abbrev at : ℕ
+  at = get_or placeTable c 0
+
   pub row_inside : at + 3 ≤ length file
-  row_inside = omega (arith, r.placed.inside c r.below)
+  row_inside = omega (arith, placed.inside c below)
 
   pub row-ahead : Begins (row file placeTable n c) (take (length file - (at + 3)) (drop (at + 3) file))
   row-ahead =
@@ -55,7 +53,7 @@ module _ (file placeTable : List ℕ) (n c : ℕ) (r : RowRead file placeTable n
       record {
         rest = drop k source;
         split = take_all (length file - (at + 3)) source (omega (arith, length-drop (at + 3) file)) ∙ sym (take-append-drop k source)
-            ∙ ap (λ (x : List ℕ). x ++ drop k source) (row-whole file placeTable n c at l r.below e refl);
+            ∙ ap (λ (x : List ℕ). x ++ drop k source) (row-whole file placeTable n c at l below refl refl);
       }
 
 module _ (D : Dictionary) (codes : List ℕ) (i : ℕ) (h : i < length codes) where

@@ -1,9 +1,8 @@
 -- `decode_tokens` and `token_bytes` of document 01: "the codes' bytes joined, a row's bytes".
-use Rattle.std.specs.Prelude.{◌≡◌, List, [], ◌∷◌, ◌++◌, ℕ, length, drop}
+use Rattle.std.specs.Prelude.{◌≡◌, List, [], ◌∷◌, ◌++◌, Result, ℕ, length, drop}
 use Rattle.std.proofs.Math.Option.{Option}
 use Rattle.causes.specs.declared.Cause.{Cause}
 use Rattle.causes.specs.declared.Cause.TheVariants.{TooShort, OutOfForm, TooLong}
-use Rattle.causes.specs.declared.Answer.{Answer}
 use Rattle.causes.specs.Order.{decode_order, when, over, shorter, unknown, first_of}
 use Rattle.causes.specs.Call.{Call, to_number}
 use Rattle.theory.specs.Dictionary.{spell}
@@ -27,6 +26,6 @@ pub record Spelled (T : Tables) (tokens out out' : List ℕ) (size : ℕ) : Type
   pub output : out' ≡ spell (dictionary_of T.file) tokens ++ drop size out
 
 -- a refusal leaves the output as it was; else the answer is the number of bytes that the codes spell
-abbrev pub Decodes : (T : Tables) (tokens out out' : List ℕ) → Answer → Type 0
+abbrev pub Decodes : (T : Tables) (tokens out out' : List ℕ) → Result ℕ Cause → Type 0
 Decodes T tokens out out' r =
     Call to_number (decode_refusal T tokens out) (λ cause. out' ≡ out) (Spelled T tokens out out') r

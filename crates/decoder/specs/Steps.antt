@@ -1,6 +1,5 @@
 -- What the functions under decoding require and ensure.
 use Rattle.std.specs.Prelude.{◌≡◌, List, ℕ, ◌≤◌, ◌<◌, length, get_or, take}
-use Rattle.placed_rows.specs.Rows.{Placed}
 use Rattle.theory.specs.Dictionary.{spell}
 use Rattle.tables.specs.Ready.{PlacesReady}
 use Rattle.built_tables.specs.Built.{dictionary_of}
@@ -10,11 +9,6 @@ pub record CodesReady (file placeTable : List ℕ) (n : ℕ) (tokens : List ℕ)
   pub places_ready : PlacesReady file placeTable n
   pub few : length tokens ≤ 4096
   pub known : (i : ℕ) → i < length tokens → get_or tokens i 0 < n
-
--- row c may be read through the places
-pub record RowRead (file placeTable : List ℕ) (n c : ℕ) : Type 0 where
-  pub placed : Placed file placeTable n
-  pub below : c < n
 
 -- so many bytes may be copied
 pub record CopyReady (source : List ℕ) (count : ℕ) (out : List ℕ) : Type 0 where

@@ -6,9 +6,6 @@ use Rattle.phrase_file.proofs.Places.{Row, row-found}
 use Rattle.phrase_file.proofs.Walking.{passes_on}
 use Rattle.phrase_file.proofs.FileRecordsIterator.next.Goals as goal
 
-pub returns-then-length-eq0-clause-steps : goal.returns-then-length-eq0-clause-steps
-returns-then-length-eq0-clause-steps c = record { none = sym c.row_length-length.ensures ∙ c.if-length-eq0.true; kept = refl }
-
 pub overflow_add-self : goal.overflow_add-self
 overflow_add-self c =
     let turn : Row c.args.self.now.file.now c.args.self.now.at c.row_length-length.result = row-found _ _ _ c.row_length-length.ensures c.if-length-eq0.false in
@@ -18,11 +15,6 @@ pub overflow_add-self-2 : goal.overflow_add-self-2
 overflow_add-self-2 c =
     let turn : Row c.args.self.now.file.now c.args.self.now.at c.row_length-length.result = row-found _ _ _ c.row_length-length.ensures c.if-length-eq0.false in
     omega (arith, turn)
-
-pub returns-clause-steps : goal.returns-clause-steps
-returns-clause-steps c =
-    let turn : Row c.args.self.now.file.now c.args.self.now.at c.row_length-length.result = row-found _ _ _ c.row_length-length.ensures c.if-length-eq0.false in
-    record { here = refl; some = omega (arith, turn); file_kept = refl; on = ap (λ k. c.args.self.now.at + 3 + k) c.row_length-length.ensures }
 
 pub returns-clause-goes : goal.returns-clause-goes
 returns-clause-goes c =

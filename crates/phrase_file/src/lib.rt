@@ -10,6 +10,7 @@ ghost use Rattle.phrase_file.specs.Post.{Scanned, PlacesFit};
 use causes::Cause;
 
 // The length of the row in the record at an offset, 0 where no whole record stands.
+// Kept: row_length (a definition) needs it: 0 is no row's length, and an Option would say it twice.
 pub fn row_length(file: &[u8], at: usize) -> usize
     ensures { result ≡ row_length file.now at }
 {
@@ -129,6 +130,7 @@ pub fn num_rows(file: &[u8]) -> usize
 }
 
 // The place of a row, the file's length where there is no such row.
+// Kept: no plainer: what is read there is the row's bytes, and at the file's end there are none.
 pub fn row_offset(file: &[u8], row: usize) -> usize
     ensures { result ≡ get_or (places file.now) row (length file.now) }
 {

@@ -75,8 +75,8 @@ impl<'a> IntervalTables<'a> {
         tree_in_form(self.text, self.depths)
     }
 
-    // Whether the prepared tables take over at the encoder's place: its last code is that of the prefix up to there, and
-    // the prefix up to the interval's end is that prefix or below it.
+    // Whether the prepared tables take over at the encoder's place: its last code is that of the prefix up to there,
+    // and the prefix up to the interval's end is that prefix or below it.
     fn meets(&self, encoder: BacktrackEncoder, work: &[u32], from: usize, to: usize) -> bool
         requires { let I = self.now in MeetsReady encoder work.now I.last_codes.now I.numbers.now I.ends.now from to }
         ensures { let I = self.now in MeetsIs encoder work.now I.last_codes.now I.numbers.now I.ends.now from to

@@ -12,6 +12,20 @@ use Rattle.phrase_file.proofs.Filling.{Filled, filled-start, filled-count, fille
 use Rattle.phrase_file.proofs.Walking.{Passed, passed, left_behind, none-left, all-left}
 use Rattle.phrase_file.proofs.fill_places.Goals as goal
 
+pub loop-row-init : goal.loop-row-init
+loop-row-init c =
+    let it = c.into_iter-row-iterator.result in
+    let source : enumerate_source it ≡ c.new.result = ap enumerate_source c.into_iter-row-iterator.ensures.into_iter_gives ∙ c.enumerate-row-items.ensures.source in
+    let zero : enumerate_count it ≡ 0 = ap enumerate_count c.into_iter-row-iterator.ensures.into_iter_gives ∙ c.enumerate-row-items.ensures.count in
+    let same : (enumerate_source it).file.now ≡ c.args.file.now = ap (λ (s : FileRecords). s.file.now) source ∙ c.new.ensures.file_is in
+    let all : places_left (enumerate_source it) ≡ places c.args.file.now = all-left _ (enumerate_source it) same (ap (λ (s : FileRecords). s.at) source ∙ c.new.ensures.at_start) in
+    record {
+      can = (tt, tt, inl (omega (arith, zero, ap length all, c.requires.room)));
+      ends = tt;
+      same = same;
+      filled = rw (zero, all) (filled-start _ _ c.requires.room);
+    }
+
 pub overflow_cast-table : goal.overflow_cast-table
 overflow_cast-table c =
     let turn : Passed c.args.file.now (enumerate_source c.loop-row.row-iterator) c.in-Some.place (enumerate_source c.next.new.self) =

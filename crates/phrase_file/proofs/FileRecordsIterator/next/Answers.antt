@@ -1,6 +1,4 @@
 -- A record that is passed is one of those that were left: the laws of places. Assumes nothing.
-use mathlib.Core.Path.{refl, sym, ap, ◌∙◌}
-use Prim.Native.Nat.{◌+◌}
 use native.Mathlib.Omega.{arith}
 use Rattle.phrase_file.proofs.Places.{Row, row-found}
 use Rattle.phrase_file.proofs.Walking.{passes_on}

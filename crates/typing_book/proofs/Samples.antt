@@ -9,9 +9,9 @@ use Rattle.theory.specs.Merge.{encode}
 use Rattle.theory.specs.Parts.{dictionary, parts_below}
 use Rattle.theory.specs.Samples.{E, abcd}
 use Rattle.theory.specs.Typing.{Side, append, prepend, Entry}
+use Rattle.std.specs.Prelude.{Result, Ok, Err}
+use Rattle.causes.specs.declared.Cause.{Cause}
 use Rattle.causes.specs.declared.Cause.TheVariants.{TooLong, Full}
-use Rattle.causes.specs.declared.Answer.{Answer}
-use Rattle.causes.specs.declared.Answer.TheVariants.{Number, Refused}
 use Rattle.typing_book.specs.Book.{Call, push, extend, truncate, token_count, book_refusal, book_after, book_answer, book_record}
 
 -- the book after a list of calls
@@ -20,7 +20,7 @@ books side size book [] = book
 books side size book (call ∷ calls) = books side size (book_after side size book call) calls
 
 -- the answers of a list of calls
-abbrev answers : Dictionary → Side → ℕ → List ℕ → List Call → List Answer
+abbrev answers : Dictionary → Side → ℕ → List ℕ → List Call → List (Result ℕ Cause)
 answers D side size book [] = []
 answers D side size book (call ∷ calls) = book_answer D side size book call ∷ answers D side size (book_after side size book call) calls
 
@@ -63,7 +63,7 @@ last-kept = refl
 four : List Call
 four = extend abcd ∷ push 97 ∷ extend [] ∷ truncate 2 ∷ extend (97 ∷ 98 ∷ 99 ∷ []) ∷ push 99 ∷ truncate 7 ∷ []
 
-four-answers : (side : Side) → answers (dictionary E) side 4 [] four ≡ Number 4 ∷ Refused (Full 4) ∷ Number 4 ∷ Number 2 ∷ Refused (Full 2) ∷ Number 3 ∷ Number 3 ∷ []
+four-answers : (side : Side) → answers (dictionary E) side 4 [] four ≡ Ok 4 ∷ Err (Full 4) ∷ Ok 4 ∷ Ok 2 ∷ Err (Full 2) ∷ Ok 3 ∷ Ok 3 ∷ []
 unfolding four book_after book_answer
 four-answers append = refl
 four-answers prepend = refl
@@ -77,7 +77,7 @@ unfolding four book_after
 four-prepended = refl
 
 -- a slice without records
-nothing-fits : answers (dictionary E) append 0 [] (push 97 ∷ extend [] ∷ truncate 1 ∷ token_count ∷ []) ≡ Refused (Full 0) ∷ Number 0 ∷ Number 0 ∷ Number 0 ∷ []
+nothing-fits : answers (dictionary E) append 0 [] (push 97 ∷ extend [] ∷ truncate 1 ∷ token_count ∷ []) ≡ Err (Full 0) ∷ Ok 0 ∷ Ok 0 ∷ Ok 0 ∷ []
 unfolding book_after book_answer E encode dictionary parts_below
 nothing-fits = refl
 
@@ -103,11 +103,11 @@ unfolding records book_record E encode dictionary parts_below
 P5-records = refl
 
 P4-counts : answers (dictionary E) append 4 [] (push 97 ∷ token_count ∷ push 98 ∷ token_count ∷ push 99 ∷ token_count ∷ push 100 ∷ token_count ∷ [])
-    ≡ Number 1 ∷ Number 1 ∷ Number 2 ∷ Number 1 ∷ Number 3 ∷ Number 2 ∷ Number 4 ∷ Number 3 ∷ []
+    ≡ Ok 1 ∷ Ok 1 ∷ Ok 2 ∷ Ok 1 ∷ Ok 3 ∷ Ok 2 ∷ Ok 4 ∷ Ok 3 ∷ []
 unfolding book_after book_answer E encode dictionary parts_below
 P4-counts = refl
 
 P5-counts : answers (dictionary E) prepend 4 [] (push 100 ∷ token_count ∷ push 99 ∷ token_count ∷ push 98 ∷ token_count ∷ push 97 ∷ token_count ∷ [])
-    ≡ Number 1 ∷ Number 1 ∷ Number 2 ∷ Number 1 ∷ Number 3 ∷ Number 2 ∷ Number 4 ∷ Number 3 ∷ []
+    ≡ Ok 1 ∷ Ok 1 ∷ Ok 2 ∷ Ok 1 ∷ Ok 3 ∷ Ok 2 ∷ Ok 4 ∷ Ok 3 ∷ []
 unfolding book_after book_answer E encode dictionary parts_below
 P5-counts = refl

@@ -14,11 +14,10 @@ use Rattle.theory.specs.Typing.{Side, in_order, entry_at}
 use Rattle.theory.proofs.Lists.{lt_or_ge}
 use Rattle.theory.proofs.Sides.{length-in_order}
 use Rattle.theory.proofs.Typing.{entry_at_append, entry_at_take}
+use Rattle.std.specs.Prelude.{Result, Ok}
 use Rattle.causes.specs.declared.Cause.{Cause}
 use Rattle.causes.specs.declared.Cause.TheVariants.{TooLong, Full}
 use Rattle.tables.specs.Tables.{Tables}
-use Rattle.causes.specs.declared.Answer.{Answer}
-use Rattle.causes.specs.declared.Answer.TheVariants.{Number}
 use Rattle.causes.specs.Order.{other_order, when, over, first_of}
 use Rattle.causes.specs.Call.{saying, to_number}
 use Rattle.causes.proofs.Calls.{given-answer, answer_with}
@@ -43,11 +42,11 @@ within book size typed e =
     (ltb-false size end f.0, ltb-false 4096 end f.1)
 
 -- the same refusal and the same number give the same answer
-same_answer : {x y : Option Cause} {k l : ℕ} → x ≡ y → k ≡ l → saying to_number x k ≡ saying to_number y l
+same_answer : {x y : Option Cause} {k l : ℕ} → x ≡ y → k ≡ l → saying x k ≡ saying y l
 same_answer e f = rw (e, f)
 
 -- what a call leaves and answers: typed bytes whose text is the book after it
-pub record Turned (D : Dictionary) (side : Side) (size : ℕ) (s : List ℕ) (m : Lent) (call : Call) (r : Answer) (m' : Lent) : Type 0 where
+pub record Turned (D : Dictionary) (side : Side) (size : ℕ) (s : List ℕ) (m : Lent) (call : Call) (r : Result ℕ Cause) (m' : Lent) : Type 0 where
   pub text : List ℕ
   pub book : in_order side text ≡ book_after side size (in_order side s) call
   pub standing : Standing D side size m' text
@@ -55,7 +54,7 @@ pub record Turned (D : Dictionary) (side : Side) (size : ℕ) (s : List ℕ) (m 
   pub beyond : drop m'.len m'.states ≡ drop m'.len m.states
 
 module _ (T : Tables) (n : ℕ) (B : Built T n)
-    (side : Side) (size : ℕ) (m : Lent) (s : List ℕ) (S : Standing (dictionary_of T.file) side size m s) (r : Answer) (m' : Lent) where
+    (side : Side) (size : ℕ) (m : Lent) (s : List ℕ) (S : Standing (dictionary_of T.file) side size m s) (r : Result ℕ Cause) (m' : Lent) where
   open T use {file}
 
   abbrev D : Dictionary
@@ -160,7 +159,7 @@ module _ (T : Tables) (n : ℕ) (B : Built T n)
       size_is = ap length e ∙ S.size_is;
       records = λ i h. ap (λ (l : List State). entry_of (get_or l i no_state)) e ∙ S.records i (omega (arith, length-take k s)) ∙ sym (entry_at_take D side s k i (omega (arith, length-take k s)));
     };
-    answer = given-answer to_number K passes ∙ ap Number ((K.given passes).0 ∙ kept-length);
+    answer = given-answer to_number K passes ∙ ap Ok ((K.given passes).0 ∙ kept-length);
     beyond = ap (drop m'.len) e;
   }
     where
@@ -176,7 +175,7 @@ module _ (T : Tables) (n : ℕ) (B : Built T n)
     text = s;
     book = refl;
     standing = rw e S;
-    answer = given-answer to_number K.call passes ∙ ap Number (K.call.given passes ∙ last-count T n B side size m s S);
+    answer = given-answer to_number K.call passes ∙ ap Ok (K.call.given passes ∙ last-count T n B side size m s S);
     beyond = rw e;
   }
     where

@@ -1,15 +1,14 @@
 -- The typing book of document 01: a text, empty at first, that sees the arguments of the calls and the slice's size,
 -- nothing else.
 use Rattle.std.proofs.Math.Option.{Option, none, some}
-use Rattle.std.specs.Prelude.{List, [], ◌∷◌, ◌++◌, reverse, ℕ, suc, ◌-◌, length, get_or, take, drop}
+use Rattle.std.specs.Prelude.{List, [], ◌∷◌, ◌++◌, reverse, ℕ, suc, ◌-◌, length, get_or, take, drop, Result}
 use Rattle.theory.specs.Dictionary.{Dictionary}
 use Rattle.theory.specs.Merge.{encode}
 use Rattle.theory.specs.Typing.{Side, append, prepend, end_code, Entry}
 use Rattle.causes.specs.declared.Cause.{Cause}
 use Rattle.causes.specs.declared.Cause.TheVariants.{TooLong, Full}
-use Rattle.causes.specs.declared.Answer.{Answer}
 use Rattle.causes.specs.Order.{other_order, when, over, first_of}
-use Rattle.causes.specs.Call.{saying, to_number}
+use Rattle.causes.specs.Call.{saying}
 use Rattle.typing_columns.specs.Refusals.{full}
 
 -- the calls of a list
@@ -62,8 +61,8 @@ book_number D side book (extend bytes) = length (turned side book (extend bytes)
 book_number D side book (truncate k) = length (turned side book (truncate k))
 book_number D side book token_count = length (encode D book)
 
-unfoldable pub book_answer : Dictionary → Side → ℕ → List ℕ → Call → Answer
-book_answer D side size book call = saying to_number (book_refusal size book call) (book_number D side book call)
+unfoldable pub book_answer : Dictionary → Side → ℕ → List ℕ → Call → Result ℕ Cause
+book_answer D side size book call = saying (book_refusal size book call) (book_number D side book call)
 
 -- byte i, in prepending counted from the back
 abbrev pub byte_at : Side → List ℕ → ℕ → ℕ

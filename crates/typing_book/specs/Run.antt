@@ -1,10 +1,10 @@
 -- A list of typing calls over one slice and one head, each with what its contract ensures, and what the typing book
 -- says of the list.
-use Rattle.std.specs.Prelude.{◌≡◌, List, [], ◌∷◌, ℕ, ◌<◌, length, get_or, drop}
+use Rattle.std.specs.Prelude.{◌≡◌, List, [], ◌∷◌, ℕ, ◌<◌, length, get_or, drop, Result}
 use Rattle.theory.specs.Dictionary.{Octets}
 use Rattle.theory.specs.Typing.{Side}
 use Rattle.tables.specs.Tables.{Tables}
-use Rattle.causes.specs.declared.Answer.{Answer}
+use Rattle.causes.specs.declared.Cause.{Cause}
 use Rattle.built_tables.specs.Built.{dictionary_of}
 use Rattle.typing.specs.declared.State.{State}
 use Rattle.typing.specs.Records.{no_state, entry_of}
@@ -19,7 +19,7 @@ pub record Lent : Type 0 where
 -- a call of a list: its arguments, its answer, and what it left
 pub record Event : Type 0 where
   pub call : Call
-  pub answer : Answer
+  pub answer : Result ℕ Cause
   pub after : Lent
 
 -- the bytes that a call adds are octets
@@ -37,7 +37,7 @@ module _ (T : Tables) (side : Side) where
   open T use {file}
 
   -- what the call's contract ensures
-  abbrev pub Ensured : Call → Lent → Answer → Lent → Type 0
+  abbrev pub Ensured : Call → Lent → Result ℕ Cause → Lent → Type 0
   Ensured (push byte) m r m' = Extended T side m.len m.states (byte ∷ []) r m'.len m'.states
   Ensured (extend bytes) m r m' = Extended T side m.len m.states bytes r m'.len m'.states
   Ensured (truncate k) m r m' = Truncated m.len (length m.states) k r m'.len × (m'.states ≡ m.states)

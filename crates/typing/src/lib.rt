@@ -18,7 +18,7 @@ use typing_columns::{Columns, Side};
 // A typing record: a byte, the last code of the text up to it (in prepending the first code), and the number of its
 // codes.
 #[repr(C)]
-#[derive(Clone, Copy)]
+#[derive(Clone, Copy, PartialEq, Eq)]
 pub struct State {
     pub byte: u8,
     pub code: u32,

@@ -1,8 +1,8 @@
 -- What typing over columns and the loop over pieces require and leave.
-use Rattle.std.specs.Prelude.{◌≡◌, List, true, ℕ, ◌+◌, ◌*◌, ◌≤◌, ◌<◌, length, get_or}
+use Rattle.std.specs.Prelude.{◌≡◌, List, true, ℕ, ◌+◌, ◌*◌, ◌≤◌, ◌<◌, length, get_or, Result}
 use Rattle.theory.specs.Tree.{interval_count}
 use Rattle.tables.specs.Tables.{Tables}
-use Rattle.causes.specs.declared.Answer.{Answer}
+use Rattle.causes.specs.declared.Cause.{Cause}
 use Rattle.causes.specs.Causes.{answer_of}
 use Rattle.built_tables.specs.Built.{dictionary_of, Built}
 use Rattle.backtrack_encoder.specs.Encoder.{TextReady}
@@ -10,8 +10,8 @@ use Rattle.built_tables.specs.IntervalTables.{Prepared, interval_in_form}
 use Rattle.bench_exports.specs.Measured.{Each}
 
 -- r is the number of an answer that meets a contract
-pub record Answers (meets : Answer → Type 0) (r : ℕ) : Type 0 where
-  pub answer : Answer
+pub record Answers (meets : Result ℕ Cause → Type 0) (r : ℕ) : Type 0 where
+  pub answer : Result ℕ Cause
   pub met : meets answer
   pub is : r ≡ (answer_of answer).place
 

@@ -2,51 +2,64 @@
 // than one of them.
 #![tactic(auto)]
 
-ghost use Rattle.std.specs.Prelude.{◌≡◌, ◌≤◌, ◌<◌, length};
+ghost use Rattle.std.specs.Prelude.{◌≡◌, ℕ, ◌≤◌, ◌<◌, length};
 ghost use Rattle.marks.specs.Layout.{area_size};
-ghost use Rattle.placed_rows.specs.Rows.{row, Placed};
+ghost use Rattle.placed_rows.specs.Rows.{row};
 ghost use Rattle.search_area.specs.Answers.{Found};
 ghost use Rattle.pair_check.specs.Pair.{PairReady};
 ghost use Rattle.shortest_encoder.specs.Encoders.{MinimalReady, MinimalIs, GreedyReady, GreedyIs};
-ghost use Rattle.bench_exports.specs.Measured.{LookupReady, JoinReady, PairsReady, PairNumber, Finds, Joins};
+ghost use Rattle.bench_exports.specs.Measured.{LookupReady, JoinReady, PairsReady, PairNumber, Each, Finds, Joins};
 ghost use Rattle.bench_exports.specs.Measured.{Pairs};
-ghost use Rattle.tables.specs.Tables.{pair_given, pair_lent};
+ghost use Rattle.tables.specs.Tables.{pair_tables};
 
 mod pieces;
 mod typed;
 
-use placed_rows::wide;
+use placed_rows::Rows;
+use tables::RowTables;
 
 // The row with the bytes of row x.
-fn find_row(file: &[u8], places: &[u32], area: &[u32], n: usize, x: u32) -> u32
-    requires placed { Placed file.now places.now n }
-    requires area_size_in_bounds { (area_size ≤ length area.now) × (x < n) }
-    ensures { Found file.now places.now n area.now
-        (row file.now places.now n x) result }
+fn find_row(rows: &Rows<'_>, area: &[u32], x: u32) -> u32
+    requires { (area_size ≤ length area.now) × (x < rows.now.n) }
+    ensures { let r = rows.now in Found r.file.now r.places.now r.n area.now (row r.file.now r.places.now r.n x) result }
 {
-    let bytes = placed_rows::bytes_of(file, places, n, wide(x));
-    search_area::find(file, places, area, n, bytes)
+    search_area::find(rows, area, rows.bytes_of(x as usize))
 }
 
 // Whether x and y pass, as a number.
-fn pair_number(
-    file: &[u8],
-    places: &[u32],
-    lefts: &[u32],
-    rights: &[u32],
-    area: &[u32],
+fn pair_number<'a>(
+    file: &'a [u8],
+    places: &'a [u32],
+    lefts: &'a [u32],
+    rights: &'a [u32],
+    area: &'a [u32],
     n: usize,
     x: u32,
     y: u32,
 ) -> u32
-    requires pair_ready { PairReady (pair_given file places lefts rights area) n n x y }
+    requires pair_ready { PairReady (pair_tables file.now places.now lefts.now rights.now area.now) n n x y }
     requires n_bound { n ≤ 4096 }
-    ensures { PairNumber (pair_lent file places lefts rights area) n x y result }
+    ensures { PairNumber (pair_tables file.now places.now lefts.now rights.now area.now) n x y result }
 {
-    if pair_check::is_valid_pair_by_parts(file, places, lefts, rights, area, n, n as u32, x, y) {
-        return 1;
+    let tables = RowTables {
+        rows: Rows { file, places, n },
+        lefts,
+        rights,
+        prefixes: &[],
+        area,
+    };
+    u32::from(pair_check::is_valid_pair_by_parts(&tables, n as u32, x, y))
+}
+
+// Writes the first m entries, each by its place.
+fn write_each<F: Fn(usize) -> u32>(m: usize, out: &mut [u32], entry: F)
+    requires room { m ≤ length out.old }
+    requires callable { (i : ℕ) → i < m → F.pre entry i }
+    ensures { Each (λ (i r : ℕ). F.post entry i r) m out.old out.new }
+{
+    for i in 0..m {
+        out[i] = entry(i);
     }
-    0
 }
 
 // Each code is looked up by its bytes.
@@ -63,11 +76,8 @@ pub extern "C" fn measured_finds(
     ensures { Finds file.now places.now n area.now codes.now
         out.old out.new }
 {
-    let mut i = 0;
-    while i < codes.len() {
-        out[i] = find_row(file, places, area, n, codes[i]);
-        i += 1;
-    }
+    let rows = Rows { file, places, n };
+    write_each(codes.len(), out, |i| find_row(&rows, area, codes[i]));
 }
 
 // Each code is joined with the code at its place in the other list.
@@ -85,11 +95,12 @@ pub extern "C" fn measured_joins(
     ensures { Joins file.now places.now n area.now codes.now
         others.now out.old out.new }
 {
-    let mut i = 0;
-    while i < codes.len() {
-        out[i] = search_area::join(file, places, area, n, codes[i], others[i]);
-        i += 1;
-    }
+    let rows = Rows { file, places, n };
+    write_each(
+        codes.len(),
+        out,
+        |i| search_area::join(&rows, area, codes[i], others[i]),
+    );
 }
 
 // Each code is checked with the code at its place in the other list.
@@ -105,23 +116,21 @@ pub extern "C" fn measured_pairs(
     others: &[u32],
     out: &mut [u32],
 )
-    requires { PairsReady (pair_given file places lefts rights area) n codes.now others.now out.old }
+    requires { PairsReady (pair_tables file.now places.now lefts.now rights.now area.now) n codes.now others.now out.old }
     ensures { Pairs file.now places.now n area.now codes.now
         lefts.now rights.now others.now out.old out.new }
 {
-    let mut i = 0;
-    while i < codes.len() {
-        out[i] = pair_number(file, places, lefts, rights, area, n, codes[i], others[i]);
-        i += 1;
-    }
+    write_each(codes.len(), out, |i| {
+        pair_number(file, places, lefts, rights, area, n, codes[i], others[i])
+    });
 }
 
 // The core of `encode_minimal`, by itself.
 #[unsafe(no_mangle)]
-pub extern "C" fn measured_minimal(
-    file: &[u8],
-    places: &[u32],
-    area: &[u32],
+pub extern "C" fn measured_minimal<'a>(
+    file: &'a [u8],
+    places: &'a [u32],
+    area: &'a [u32],
     n: usize,
     text: &[u8],
     out: &mut [u32],
@@ -131,15 +140,22 @@ pub extern "C" fn measured_minimal(
     ensures { MinimalIs file.now places.now area.now n text.now
         out.old out.new work.old work.new result }
 {
-    shortest_encoder::encode_minimal_core(file, places, area, n, text, out, work)
+    let tables = RowTables {
+        rows: Rows { file, places, n },
+        lefts: &[],
+        rights: &[],
+        prefixes: &[],
+        area,
+    };
+    shortest_encoder::encode_minimal_core(&tables, text, out, work)
 }
 
 // The core of `encode_greedy`, by itself.
 #[unsafe(no_mangle)]
-pub extern "C" fn measured_greedy(
-    file: &[u8],
-    places: &[u32],
-    area: &[u32],
+pub extern "C" fn measured_greedy<'a>(
+    file: &'a [u8],
+    places: &'a [u32],
+    area: &'a [u32],
     n: usize,
     text: &[u8],
     out: &mut [u32],
@@ -148,5 +164,12 @@ pub extern "C" fn measured_greedy(
     ensures { GreedyIs file.now places.now area.now n text.now
         out.old out.new result }
 {
-    shortest_encoder::encode_greedy_core(file, places, area, n, text, out)
+    let tables = RowTables {
+        rows: Rows { file, places, n },
+        lefts: &[],
+        rights: &[],
+        prefixes: &[],
+        area,
+    };
+    shortest_encoder::encode_greedy_core(&tables, text, out)
 }

@@ -5,7 +5,7 @@ use mathlib.Core.List.{List, [], ◌∷◌}
 use mathlib.Core.Bool.{Bool, true, false}
 use Prim.Native.Nat.{ℕ, zero, suc, ◌+◌, ◌-◌, ◌/◌, ◌%◌, ◌≤◌, ◌<◌}
 use native.Mathlib.Omega.{arith}
-use lib.ListN.{length, get_or, drop}
+use lib.ListN.{length, get_or}
 use Rattle.bitfield.specs.Bits.{is_set}
 use Rattle.theory.specs.Dictionary.{Dictionary, none}
 use Rattle.theory.specs.Paper.{pass, listed}
@@ -13,6 +13,7 @@ use Rattle.theory.proofs.Lists.{bool_cases}
 use Rattle.theory.proofs.Pass.{pass_miss}
 use Rattle.built_tables.specs.Built.{dictionary_of, Built}
 use Rattle.merge_encoder.specs.Encoding.{JoinsReady, WhenBuilt}
+use Rattle.merge_encoder.specs.declared.joins.Joins.{Joins}
 use Rattle.merge_encoder.specs.Live.{kept, live}
 use Rattle.merge_encoder.specs.Steps.{JoinKey, KeyIs, Keyed, State, Waiting, During, Ran, RowJoined}
 use Rattle.merge_encoder.proofs.Queueing.{queued-cases, queued-none}
@@ -47,94 +48,75 @@ module _ (P : PairTables) (n len : ℕ) (words work keys : List ℕ) (K : Keyed 
           pass_miss row (listed D row) (get_or work i 0) y t m ∙ ap {B = List ℕ} (λ l. get_or work i 0 ∷ l) h
 
 -- the entries of row's queue before `entry` are worked through
-pub record Emptying (P : PairTables) (n len : ℕ) (words₀ work₀ keys₀ heads₀ pool₀ : List ℕ) (row : ℕ) (words work keys heads pool : List ℕ) (count entry : ℕ) : Type 0 where
-  pub state : State P n len words work keys heads pool count
-  pub known : entry < count
+pub record Emptying (P : PairTables) (n len : ℕ) (S₀ : Joins) (work₀ : List ℕ) (row : ℕ) (S : Joins) (work : List ℕ) (entry : ℕ) : Type 0 where
+  pub state : State P n len S work
+  pub known : entry < S.count
   pub work_length : length work ≡ length work₀
-  pub beyond : drop len work ≡ drop len work₀
-  pub during : WhenBuilt P n (λ D. Waiting keys₀ heads₀ pool₀ row → During (is_set words) keys heads pool row entry 4096)
-  pub same : WhenBuilt P n (λ D. pass row (listed D row) (live (is_set words) work len 0) ≡ pass row (listed D row) (live (is_set words₀) work₀ len 0))
+  pub during : WhenBuilt P n (λ D. Waiting S₀ row → During (is_set S.live.words) S row entry 4096)
+  pub same : WhenBuilt P n (λ D. pass row (listed D row) (live (is_set S.live.words) work len 0) ≡ pass row (listed D row) (live (is_set S₀.live.words) work₀ len 0))
 
-module _ (P : PairTables) (n len : ℕ) (words₀ work₀ keys₀ heads₀ pool₀ : List ℕ) (row : ℕ) (T : JoinsReady P n) (below : row < n) where
+module _ (P : PairTables) (n len : ℕ) (S₀ : Joins) (work₀ : List ℕ) (row : ℕ) (T : JoinsReady P n) (below : row < n) where
   few : n ≤ 4096
   few = T.rows_ready.places_ready.placed.few
 
   not_none : row ≡ none → ⊥
   not_none e = omega (arith, below, few)
 
-  pub emptying_start : (count queue entry : ℕ) → State P n len words₀ work₀ keys₀ heads₀ pool₀ count → queue ≡ row → entry ≡ get_or heads₀ queue 0
-      → Emptying P n len words₀ work₀ keys₀ heads₀ pool₀ row words₀ work₀ keys₀ heads₀ pool₀ count entry
-  emptying_start count queue entry S q e =
-      let f : entry ≡ get_or heads₀ row 0 = e ∙ ap (λ (r : ℕ). get_or heads₀ r 0) q in
-      record {
-        state = S;
-        known = omega (arith, S.queues.newest row (omega (arith, below, few)));
-        work_length = refl;
-        beyond = refl;
-        during = λ prefixes B W. record {
-          least = W.least;
-          queued = λ i h l s. W.queued i h s;
-          due = λ i h z. inr (inl (rw (f, ← z) (W.queued i h (λ w. not_none (sym z ∙ w)))));
-        };
-        same = λ prefixes B. refl;
-      }
+  module _ (S : Joins) (work : List ℕ) (entry : ℕ) (E : Emptying P n len S₀ work₀ row S work entry) where
+    older : get_or S.pool entry 0 / 4096 ≤ entry - 1
+    older = S.queues.older entry E.known
 
-  module _ (words work keys heads pool : List ℕ) (count entry : ℕ) (E : Emptying P n len words₀ work₀ keys₀ heads₀ pool₀ row words work keys heads pool count entry) where
-    older : get_or pool entry 0 / 4096 ≤ entry - 1
-    older = E.state.queues.older entry E.known
-
-    module _ (some : 0 < entry) (at next : ℕ) (a : at ≡ get_or pool entry 0 % 4096) (b : next ≡ get_or pool entry 0 / 4096) where
-      pub emptying_less : next < entry
+    module _ (some : 0 < entry) where
+      pub emptying_less : get_or S.pool entry 0 / 4096 < entry
       emptying_less = omega (arith, older)
 
       -- the entry's place comes out of the queue
-      taken : (bits : ℕ → Bool) → During bits keys heads pool row entry 4096 → During bits keys heads pool row next at
+      taken : (bits : ℕ → Bool) → During bits S row entry 4096
+          → During bits S row (get_or S.pool entry 0 / 4096) (get_or S.pool entry 0 % 4096)
       taken bits R = record {
         least = R.least;
         queued = R.queued;
         due = λ i h e. ⊎_elim
             (λ z. absurd (omega arith))
-            (λ w. ⊎_elim (λ q. ⊎_elim (λ z. inl (z ∙ sym a)) (λ z. inr (inl (rw b z))) (queued-cases pool entry i q)) (λ z. inr (inr z)) w)
+            (λ w. ⊎_elim (λ q. ⊎_elim (λ z. inl z) (λ z. inr (inl z)) (queued-cases S.pool entry i q)) (λ z. inr (inr z)) w)
             (R.due i h e);
       }
 
-      pub emptying_more : (words' work' keys' heads' pool' : List ℕ) (r : ℕ) → Ran P n len words work keys heads pool count row at words' work' keys' heads' pool' r
-          → Emptying P n len words₀ work₀ keys₀ heads₀ pool₀ row words' work' keys' heads' pool' r next
-      emptying_more words' work' keys' heads' pool' r R = record {
+      pub emptying_more : (S' : Joins) (work' : List ℕ) → Ran P n len S work row (get_or S.pool entry 0 % 4096) S' work'
+          → Emptying P n len S₀ work₀ row S' work' (get_or S.pool entry 0 / 4096)
+      emptying_more S' work' R = record {
         state = R.state;
         known = omega (arith, emptying_less, E.known, R.least);
         work_length = R.work_length ∙ E.work_length;
-        beyond = R.beyond ∙ E.beyond;
-        during = λ prefixes B W. R.during prefixes B next (omega (arith, emptying_less, E.known)) (taken (is_set words) (E.during prefixes B W));
+        during = λ prefixes B W. R.during prefixes B (get_or S.pool entry 0 / 4096) (omega (arith, emptying_less, E.known)) (taken (is_set S.live.words) (E.during prefixes B W));
         same = λ prefixes B. R.same prefixes B ∙ E.same prefixes B;
       }
 
     module _ (none_left : entry ≤ 0) where
       -- the leftmost place with the key row would have another one before it
-      no_more : During (is_set words) keys heads pool row entry 4096 → (m i : ℕ) → i < m → i < 4096 → get_or keys i 0 ≡ row → ⊥
+      no_more : During (is_set S.live.words) S row entry 4096 → (m i : ℕ) → i < m → i < 4096 → get_or S.keys i 0 ≡ row → ⊥
       no_more R zero i l h e = omega arith
       no_more R (suc m) i l h e = ⊎_elim
           (λ z. omega arith)
           (λ w. ⊎_elim
-          (λ q. let z : entry ≡ 0 = omega arith in queued-none heads pool count E.state.queues i (rw z at q))
+          (λ q. let z : entry ≡ 0 = omega arith in queued-none S.heads S.pool S.count S.queues i (rw z at q))
           (λ b. no_more R m b.place (omega (arith, b.before)) (omega (arith, b.before)) b.key)
           w)
           (R.due i h e)
 
-      pub emptying_end : RowJoined P n len words₀ work₀ keys₀ heads₀ pool₀ row words work keys heads pool count
+      pub emptying_end : RowJoined P n len S₀ work₀ row S work
       emptying_end = record {
         state = E.state;
         work_length = E.work_length;
-        beyond = E.beyond;
         waiting = λ prefixes B W.
             let R = E.during prefixes B W in
-            let above : (i : ℕ) → i < 4096 → row < get_or keys i 0 = λ i h. higher i h (R.least i h) (no_more R 4096 i h h) in
+            let above : (i : ℕ) → i < 4096 → row < get_or S.keys i 0 = λ i h. higher i h (R.least i h) (no_more R 4096 i h h) in
             record { least = λ i h. above i h; queued = λ i h s. R.queued i h (above i h) s };
         is = λ prefixes B W.
             let R = E.during prefixes B W in
-            sym (left_alone P n len words work keys E.state.keyed row below (λ i h. no_more R 4096 i h h) prefixes B len 0 (omega arith))
+            sym (left_alone P n len S.live.words work S.keys E.state.keyed row below (λ i h. no_more R 4096 i h h) prefixes B len 0 (omega arith))
             ∙ E.same prefixes B;
       }
         where
-          higher : (i : ℕ) → i < 4096 → row ≤ get_or keys i 0 → (get_or keys i 0 ≡ row → ⊥) → row < get_or keys i 0
+          higher : (i : ℕ) → i < 4096 → row ≤ get_or S.keys i 0 → (get_or S.keys i 0 ≡ row → ⊥) → row < get_or S.keys i 0
           higher i h l s = omega arith

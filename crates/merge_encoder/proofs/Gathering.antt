@@ -5,11 +5,10 @@ use mathlib.Core.Bool.{true, false}
 use Prim.Native.Nat.{ℕ, suc, ◌+◌, ◌≤◌, ◌<◌}
 use native.Mathlib.Numerals.{add-one}
 use native.Mathlib.Omega.{arith}
-use lib.ListN.{length, length-append, length-drop, get_or, drop, set}
+use lib.ListN.{length, length-append, get_or, drop, set}
 use lib.Seq.{append_snoc, drop-cons, set_at}
 use Rattle.bitfield.specs.Bits.{is_set}
 use Rattle.merge_encoder.specs.Live.{live}
-use Rattle.merge_encoder.specs.Steps.{Gathered}
 use Rattle.merge_encoder.proofs.Living.{live-set, live-clear, live-parts, live-few}
 
 -- the codes at the live places below i stand at the front of out
@@ -19,16 +18,9 @@ pub record Gathering (words work : List ℕ) (len : ℕ) (out₀ out : List ℕ)
   pub is : out ≡ live (is_set words) work i 0 ++ drop count out₀
 
 module _ (words work : List ℕ) (len : ℕ) (out₀ : List ℕ) where
-  pub gather_start : Gathering words work len out₀ out₀ 0 0
-  gather_start = record { few = omega arith; size = refl; is = refl }
-
   module _ (out : List ℕ) (count i : ℕ) (G : Gathering words work len out₀ out count i) where
     pub gather_few : count ≤ i
     gather_few = omega (arith, G.size, live-few (is_set words) work i 0)
-
-    pub gather_length : len ≤ length out₀ → length out ≡ length out₀
-    gather_length r =
-        ap length G.is ∙ length-append (live (is_set words) work i 0) (drop count out₀) ∙ omega (arith, G.size, length-drop count out₀, gather_few, G.few)
 
     front : (s : List ℕ) → live (is_set words) work 1 i ≡ s → live (is_set words) work (i + 1) 0 ≡ live (is_set words) work i 0 ++ s
     front s e =
@@ -55,6 +47,3 @@ module _ (words work : List ℕ) (len : ℕ) (out₀ : List ℕ) where
               ∙ ap (λ (s : List ℕ). s ++ drop (suc count) out₀) (sym f)
               ∙ ap (λ (k : ℕ). live (is_set words) work (i + 1) 0 ++ drop k out₀) (sym (add-one count));
         }
-
-    pub gather_end : len ≤ i → Gathered words work len out₀ out count
-    gather_end l = let e : i ≡ len = omega (arith, G.few) in let H = rw e at G in record { count = H.size; is = H.is }

@@ -7,7 +7,7 @@ use Prim.Native.Nat.{ℕ, suc, ◌+◌, ◌-◌, ◌≤◌, ◌<◌}
 use native.Mathlib.Decide.{ℕ_discrete}
 use native.Mathlib.Omega.{arith}
 use lib.ListN.{length, length-append, length-set, get_or, set}
-use lib.Seq.{get_or-set_same, get_or-set_other, drop-set-lt}
+use lib.Seq.{get_or-set_same, get_or-set_other}
 use Rattle.bitfield.specs.Bits.{is_set, without}
 use Rattle.bitfield.proofs.Without.{without-same, without_other}
 use Rattle.theory.specs.Dictionary.{Dictionary, none}
@@ -19,7 +19,10 @@ use Rattle.built_tables.specs.Built.{dictionary_of, Built}
 use Rattle.built_tables.proofs.Rows.{lawful-is}
 use Rattle.merge_encoder.specs.Encoding.{JoinsReady, WhenBuilt, Codes}
 use Rattle.merge_encoder.specs.Live.{live, NextLive, LastLive}
-use Rattle.merge_encoder.specs.Queues.{Queued, Longer}
+use Rattle.bitfield.specs.declared.BitField.{BitField}
+use Rattle.merge_encoder.specs.declared.joins.Joins.{Joins}
+use Rattle.merge_encoder.specs.Queues.{Queued}
+use Rattle.merge_encoder.specs.Pushing.{Longer}
 use Rattle.merge_encoder.specs.Steps.{JoinKey, NextKey, KeyIs, CodesReady, RenewReady, Renewed, Keyed, State, Around, Turned}
 use Rattle.merge_encoder.proofs.Living.{live-none}
 use Rattle.merge_encoder.proofs.Turning.{parted, next-some, next-none, joined, next-after, next_last, keys_after}
@@ -46,10 +49,10 @@ module _ (P : PairTables) (n : ℕ) where
   open P use {file}
 
   -- the key found anew is that of the codes from the place on
-  renewed-key : (bits : ℕ → Bool) (len : ℕ) (work keys heads pool : List ℕ) (count at next : ℕ) (keys' heads' pool' : List ℕ) (r : ℕ) → NextLive bits at len next
-      → Renewed P n len work keys heads pool count at next keys' heads' pool' r
-      → NextKey (JoinKey P n) (get_or work at 0) (live bits work (len - suc at) (suc at)) (get_or keys' at 0)
-  renewed-key bits len work keys heads pool count at next keys' heads' pool' r N R = ⊎_elim
+  renewed-key : (bits : ℕ → Bool) (len : ℕ) (work : List ℕ) (Q : Joins) (at next : ℕ) (Q' : Joins) → NextLive bits at len next
+      → Renewed P n len work Q at next Q'
+      → NextKey (JoinKey P n) (get_or work at 0) (live bits work (len - suc at) (suc at)) (get_or Q'.keys at 0)
+  renewed-key bits len work Q at next Q' N R = ⊎_elim
       (λ l. rw (next-some bits work len at next N l) (R.here l))
       (λ l. let e : next ≡ len = omega (arith, N.most) in rw (next-none bits work len at next N e) (R.last e))
       (lt_or_ge next len)
@@ -108,51 +111,51 @@ module _ (P : PairTables) (n len : ℕ) (words work keys : List ℕ) (T : JoinsR
     pub here-key : JoinKey P n (get_or work at 0) (get_or work next 0) row
     here-key = rw (next-some (is_set words) work len at next N here-next) at H.key
 
-module _ (P : PairTables) (n len : ℕ) (words work keys heads pool : List ℕ) (count row last at next after : ℕ)
-    (T : JoinsReady P n) (S : State P n len words work keys heads pool count)
-    (A : Around (is_set words) keys n len row last at next after) where
+module _ (P : PairTables) (n len : ℕ) (S : Joins) (work : List ℕ) (row last at next after : ℕ)
+    (T : JoinsReady P n) (I : State P n len S work)
+    (A : Around (is_set S.live.words) S.keys n len row last at next after) where
   open P use {file}
 
   abbrev bits : ℕ → Bool
-  bits = is_set words
+  bits = is_set S.live.words
 
-  K : Keyed P n len words work keys
-  K = S.keyed
+  K : Keyed P n len S.live.words work S.keys
+  K = I.keyed
 
-  N : NextLive (is_set words) at len next
+  N : NextLive (is_set S.live.words) at len next
   N = A.next_is
 
   small : n ≤ 4096
   small = T.rows_ready.places_ready.placed.few
 
-  on : is_set words at ≡ true
-  on = here_on P n len words work keys T K row at A.below A.at_below A.here
+  on : is_set S.live.words at ≡ true
+  on = here_on P n len S.live.words work S.keys T K row at A.below A.at_below A.here
 
   pub at_below : at < len
-  at_below = here-below P n len words work keys T K row at A.below A.at_below A.here
+  at_below = here-below P n len S.live.words work S.keys T K row at A.below A.at_below A.here
 
   pub next_below : next < len
-  next_below = here-next P n len words work keys T K row at A.below A.at_below A.here next N
+  next_below = here-next P n len S.live.words work S.keys T K row at A.below A.at_below A.here next N
 
   at_key : JoinKey P n (get_or work at 0) (get_or work next 0) row
-  at_key = here-key P n len words work keys T K row at A.below A.at_below A.here next N
+  at_key = here-key P n len S.live.words work S.keys T K row at A.below A.at_below A.here next N
 
   pub at_room : at < length work
   at_room = omega (arith, K.codes_ready.room, at_below)
 
   abbrev front : List ℕ
-  front = live (is_set words) work at 0
+  front = live (is_set S.live.words) work at 0
 
   abbrev back : List ℕ
-  back = live (is_set words) work (len - suc next) (suc next)
+  back = live (is_set S.live.words) work (len - suc next) (suc next)
 
-  whole : live (is_set words) work len 0 ≡ live (is_set words) work at 0 ++ get_or work at 0 ∷ get_or work next 0 ∷ live (is_set words) work (len - suc next) (suc next)
+  whole : live (is_set S.live.words) work len 0 ≡ live (is_set S.live.words) work at 0 ++ get_or work at 0 ∷ get_or work next 0 ∷ live (is_set S.live.words) work (len - suc next) (suc next)
   whole =
       let a : len - 0 ≡ len = omega arith in
       let b : at - 0 ≡ at = omega arith in
       (rw (a, b) at (parted bits work len at 0 (omega arith) at_below on)) ∙ ap (λ (s : List ℕ). front ++ get_or work at 0 ∷ s) (next-some bits work len at next N next_below)
 
-  pub two : 2 ≤ length (live (is_set words) work len 0)
+  pub two : 2 ≤ length (live (is_set S.live.words) work len 0)
   two = omega (arith, ap length whole, length-append front (get_or work at 0 ∷ get_or work next 0 ∷ back))
 
   codes' : Codes len (set work at row) n
@@ -168,13 +171,11 @@ module _ (P : PairTables) (n len : ℕ) (words work keys heads pool : List ℕ) 
   ready' = record { few = K.codes_ready.few; room = omega (arith, K.codes_ready.room, length-set work at row); codes = codes' }
 
   -- what the first key found anew needs
-  pub first-ready : RenewReady P n len (set work at row) (set keys next none) heads pool count at after
-  first-ready = record {
+  pub first-ready : (Q : Joins) → Q.count ≡ S.count → RenewReady P n len (set work at row) Q at after
+  first-ready Q e = record {
     tables = T;
     codes_ready = ready';
-    queues = S.queues;
-    keys_room = length-set keys next none ∙ K.keys_room;
-    room = omega (arith, S.entries, two, K.codes_ready.few);
+    room = omega (arith, I.entries, two, K.codes_ready.few, e);
     at_below = at_below;
     next_below = A.after_is.most;
   }
@@ -189,12 +190,12 @@ module _ (P : PairTables) (n len : ℕ) (words work keys heads pool : List ℕ) 
         (λ e. let h = listed-is D row x row e in absurd (omega (arith, h.right, (lawful-is (with_prefixes P prefixes) n B).laws.right_below row h.long)))
         (λ e. e)
 
-    last-key : last < at → JoinKey P n (get_or work last 0) (get_or work at 0) (get_or keys last 0)
+    last-key : last < at → JoinKey P n (get_or work last 0) (get_or work at 0) (get_or S.keys last 0)
     last-key l =
         let M = next_is bits work at last A.last_is len at_below on l in
         rw (A.last_is.here l, next-some bits work len last at M at_below) at (K.key last (omega (arith, A.at_below)))
 
-    apart-last : listed (dictionary_of file) row (last_or row (live (is_set words) work at 0)) (get_or work at 0) ≡ false
+    apart-last : listed (dictionary_of file) row (last_or row (live (is_set S.live.words) work at 0)) (get_or work at 0) ≡ false
     apart-last = ⊎_elim
         (λ l.
         let e : last_or row front ≡ get_or work last 0 = ap (last_or row) (last_some bits work at last A.last_is l) ∙ last_or_append row row (live bits work last 0) (get_or work last 0 ∷ []) (λ z. nil-cons (sym z)) in
@@ -202,148 +203,145 @@ module _ (P : PairTables) (n len : ℕ) (words work keys heads pool : List ℕ) 
         (λ l. rw (last_none bits work at last A.last_is l) (apart D (lawful-is (with_prefixes P prefixes) n B).laws row (get_or work at 0)))
         (lt_or_ge last at)
 
-    pass_same : pass row (listed (dictionary_of file) row) (live (is_set words) work at 0 ++ row ∷ live (is_set words) work (len - suc next) (suc next))
-        ≡ pass row (listed (dictionary_of file) row) (live (is_set words) work len 0)
+    pass_same : pass row (listed (dictionary_of file) row) (live (is_set S.live.words) work at 0 ++ row ∷ live (is_set S.live.words) work (len - suc next) (suc next))
+        ≡ pass row (listed (dictionary_of file) row) (live (is_set S.live.words) work len 0)
     pass_same =
         pass-joined row (listed D row) (apart D (lawful-is (with_prefixes P prefixes) n B).laws row) apart-right (get_or work at 0) (get_or work next 0)
         ((at_key.built prefixes B).is (λ z. omega (arith, A.below, small))) back front apart-last
         ∙ ap (pass row (listed D row)) (sym whole)
 
-  module _ (words' : List ℕ) (cleared : is_set words' ≡ without (is_set words) next) where
+  module _ (L : BitField) (cleared : is_set L.words ≡ without (is_set S.live.words) next) where
     abbrev bits' : ℕ → Bool
-    bits' = is_set words'
+    bits' = is_set L.words
 
-    gone : is_set words' next ≡ false
-    gone = ap (λ (f : ℕ → Bool). f next) cleared ∙ without-same (is_set words) next
+    gone : is_set L.words next ≡ false
+    gone = ap (λ (f : ℕ → Bool). f next) cleared ∙ without-same (is_set S.live.words) next
 
-    same : (p : ℕ) → (p ≡ next → ⊥) → is_set words' p ≡ is_set words p
-    same p h = ap (λ (f : ℕ → Bool). f p) cleared ∙ without_other (is_set words) next p h
+    same : (p : ℕ) → (p ≡ next → ⊥) → is_set L.words p ≡ is_set S.live.words p
+    same p h = ap (λ (f : ℕ → Bool). f p) cleared ∙ without_other (is_set S.live.words) next p h
 
-    after-at : NextLive (is_set words') at len after
+    after-at : NextLive (is_set L.words) at len after
     after-at = next-after bits bits' work len at next row at_room on N next_below same gone after A.after_is
 
-    at_last : last < at → NextLive (is_set words') last len at
+    at_last : last < at → NextLive (is_set L.words) last len at
     at_last l = next_last bits bits' work len at next row at_room on N next_below same gone last A.last_is l
 
-    made : live (is_set words') (set work at row) len 0 ≡ live (is_set words) work at 0 ++ row ∷ live (is_set words) work (len - suc next) (suc next)
+    made : live (is_set L.words) (set work at row) len 0 ≡ live (is_set S.live.words) work at 0 ++ row ∷ live (is_set S.live.words) work (len - suc next) (suc next)
     made =
         let x : len - 0 ≡ len = omega arith in
         let y : at - 0 ≡ at = omega arith in
         rw (x, y) at (joined bits bits' work len at next row at_room on N next_below same gone 0 (omega arith))
 
-    fewer : suc (length (live (is_set words') (set work at row) len 0)) ≡ length (live (is_set words) work len 0)
+    fewer : suc (length (live (is_set L.words) (set work at row) len 0)) ≡ length (live (is_set S.live.words) work len 0)
     fewer = omega (arith, ap length made, ap length whole, length-append front (row ∷ back), length-append front (get_or work at 0 ∷ get_or work next 0 ∷ back))
 
     -- what the two keys found anew make of it
-    turned : (keys' heads' pool' : List ℕ) (r : ℕ) → length keys' ≡ 4096 → Longer heads pool count heads' pool' r → r ≤ count + 2
-        → NextKey (JoinKey P n) row (live (is_set words') (set work at row) (len - suc at) (suc at)) (get_or keys' at 0)
-        → get_or keys' next 0 ≡ none
-        → (last < at → NextKey (JoinKey P n) (get_or work last 0) (live (is_set words') (set work at row) (len - suc last) (suc last)) (get_or keys' last 0))
-        → ((i : ℕ) → (i ≡ at → ⊥) → (i ≡ next → ⊥) → (last < at → i ≡ last → ⊥) → get_or keys' i 0 ≡ get_or keys i 0)
-        → ((get_or keys' at 0 ≡ none → ⊥) → Queued pool' (get_or heads' (get_or keys' at 0) 0) at)
-        → (last < at → (get_or keys' last 0 ≡ none → ⊥) → Queued pool' (get_or heads' (get_or keys' last 0) 0) last)
-        → WhenBuilt P n (λ D. row < get_or keys' at 0)
-        → (last < at → WhenBuilt P n (λ D. row < get_or keys' last 0))
-        → Turned P n len words work keys heads pool count row last at next words' (set work at row) keys' heads' pool' r
-    turned keys' heads' pool' r k g l a b c d e f u v = record {
+    turned : (Q : Joins) → Q.live ≡ L → Longer S Q → Q.count ≤ S.count + 2
+        → NextKey (JoinKey P n) row (live (is_set L.words) (set work at row) (len - suc at) (suc at)) (get_or Q.keys at 0)
+        → get_or Q.keys next 0 ≡ none
+        → (last < at → NextKey (JoinKey P n) (get_or work last 0) (live (is_set L.words) (set work at row) (len - suc last) (suc last)) (get_or Q.keys last 0))
+        → ((i : ℕ) → (i ≡ at → ⊥) → (i ≡ next → ⊥) → (last < at → i ≡ last → ⊥) → get_or Q.keys i 0 ≡ get_or S.keys i 0)
+        → ((get_or Q.keys at 0 ≡ none → ⊥) → Queued Q.pool (get_or Q.heads (get_or Q.keys at 0) 0) at)
+        → (last < at → (get_or Q.keys last 0 ≡ none → ⊥) → Queued Q.pool (get_or Q.heads (get_or Q.keys last 0) 0) last)
+        → WhenBuilt P n (λ D. row < get_or Q.keys at 0)
+        → (last < at → WhenBuilt P n (λ D. row < get_or Q.keys last 0))
+        → Turned P n len S work row last at next Q (set work at row)
+    turned Q z g l a b c d e f u v = record {
       state = record {
         keyed = record {
           codes_ready = ready';
-          keys_room = k;
-          key = keys_after bits bits' work len at next row at_room on N next_below same gone
-              (JoinKey P n) K.codes_ready.few (λ i. get_or keys i 0) (λ i. get_or keys' i 0) K.key last A.last_is a b c d;
+          key = rw z (keys_after bits bits' work len at next row at_room on N next_below same gone
+              (JoinKey P n) K.codes_ready.few (λ i. get_or S.keys i 0) (λ i. get_or Q.keys i 0) K.key last A.last_is a b c d);
         };
-        queues = g.queues;
-        entries = omega (arith, S.entries, fewer);
+        entries = rw z (omega (arith, I.entries, fewer));
       };
       work_length = length-set work at row;
-      beyond = drop-set-lt len work at row at_below;
-      less = fewer;
+      less = rw z fewer;
       longer = g;
-      cleared = cleared;
+      cleared = rw z cleared;
       gone = b;
       others = d;
       fresh_at = e;
       fresh_last = f;
       higher_at = u;
       higher_last = v;
-      same = λ prefixes B. ap (pass row (listed (dictionary_of file) row)) made ∙ pass_same prefixes B;
+      same = λ prefixes B. rw z (ap (pass row (listed (dictionary_of file) row)) made ∙ pass_same prefixes B);
     }
 
-    module _ (keys2 heads2 pool2 : List ℕ) (count2 : ℕ)
-        (R : Renewed P n len (set work at row) (set keys next none) heads pool count at after keys2 heads2 pool2 count2) where
+    module _ (Q1 Q2 : Joins) (on1 : Q1.live ≡ L) (start : Q1.keys ≡ set S.keys next none) (longer1 : Longer S Q1) (count1 : Q1.count ≡ S.count)
+        (R : Renewed P n len (set work at row) Q1 at after Q2) where
       at_code : get_or (set work at row) at 0 ≡ row
       at_code = get_or-set_same work at row 0 at_room
 
-      next-room : next < length keys
-      next-room = omega (arith, K.keys_room, next_below, K.codes_ready.few)
+      next-room : next < length S.keys
+      next-room = omega (arith, S.keys_room, next_below, K.codes_ready.few)
 
-      next-key : get_or keys2 next 0 ≡ none
-      next-key = R.others next (λ z. omega (arith, N.after)) ∙ get_or-set_same keys next none 0 next-room
+      next-key : get_or Q2.keys next 0 ≡ none
+      next-key = R.others next (λ z. omega (arith, N.after)) ∙ rw start (get_or-set_same S.keys next none 0 next-room)
 
-      key2 : NextKey (JoinKey P n) row (live (is_set words') (set work at row) (len - suc at) (suc at)) (get_or keys2 at 0)
-      key2 = rw at_code at (renewed-key P n bits' len (set work at row) (set keys next none) heads pool count at after keys2 heads2 pool2 count2 after-at R)
+      key2 : NextKey (JoinKey P n) row (live (is_set L.words) (set work at row) (len - suc at) (suc at)) (get_or Q2.keys at 0)
+      key2 = rw at_code at (renewed-key P n bits' len (set work at row) Q1 at after Q2 after-at R)
 
-      higher2 : WhenBuilt P n (λ D. row < get_or keys2 at 0)
+      higher2 : WhenBuilt P n (λ D. row < get_or Q2.keys at 0)
       higher2 prefixes B = ⊎_elim
-          (λ l. above-left P n small row (get_or (set work at row) after 0) (get_or keys2 at 0) A.below (codes' after l) (rw at_code at (R.here l)) prefixes B)
+          (λ l. above-left P n small row (get_or (set work at row) after 0) (get_or Q2.keys at 0) A.below (codes' after l) (rw at_code at (R.here l)) prefixes B)
           (λ l. omega (arith, R.last (omega (arith, A.after_is.most)), A.below, small))
           (lt_or_ge after len)
 
-      others2 : (i : ℕ) → (i ≡ at → ⊥) → (i ≡ next → ⊥) → get_or keys2 i 0 ≡ get_or keys i 0
-      others2 i a b = R.others i a ∙ get_or-set_other keys next i none 0 b
+      others2 : (i : ℕ) → (i ≡ at → ⊥) → (i ≡ next → ⊥) → get_or Q2.keys i 0 ≡ get_or S.keys i 0
+      others2 i a b = R.others i a ∙ rw start (get_or-set_other S.keys next i none 0 b)
 
-      pub turned-first : last ≡ at → Turned P n len words work keys heads pool count row last at next words' (set work at row) keys2 heads2 pool2 count2
-      turned-first e = turned keys2 heads2 pool2 count2 R.keys_room R.longer (omega (arith, R.few)) key2 next-key
+      on2 : Q2.live ≡ L
+      on2 = R.same_live ∙ on1
+
+      longer2 : Longer S Q2
+      longer2 = longer_trans S Q1 Q2 longer1 R.longer
+
+      pub turned-first : last ≡ at → Turned P n len S work row last at next Q2 (set work at row)
+      turned-first e = turned Q2 on2 longer2 (omega (arith, R.few, count1)) key2 next-key
           (λ l. absurd (omega arith)) (λ i a b c. others2 i a b) R.fresh (λ l. absurd (omega arith)) higher2 (λ l. absurd (omega arith))
 
-      module _ (h : last ≡ at → ⊥) where
-        before : last < at
-        before = omega (arith, A.last_is.most)
-
+      module _ (before : last < at) where
         -- what the second one needs
-        pub second-ready : RenewReady P n len (set work at row) keys2 heads2 pool2 count2 last at
+        pub second-ready : RenewReady P n len (set work at row) Q2 last at
         second-ready = record {
           tables = T;
           codes_ready = ready';
-          queues = R.longer.queues;
-          keys_room = R.keys_room;
-          room = omega (arith, S.entries, two, K.codes_ready.few, R.few);
+          room = omega (arith, I.entries, two, K.codes_ready.few, R.few, count1);
           at_below = omega (arith, at_below, before);
           next_below = omega (arith, at_below);
         }
 
-        module _ (keys3 heads3 pool3 : List ℕ) (count3 : ℕ)
-            (Q : Renewed P n len (set work at row) keys2 heads2 pool2 count2 last at keys3 heads3 pool3 count3) where
+        module _ (Q3 : Joins) (Z : Renewed P n len (set work at row) Q2 last at Q3) where
           last_code_lem : get_or (set work at row) last 0 ≡ get_or work last 0
-          last_code_lem = get_or-set_other work at last row 0 h
+          last_code_lem = get_or-set_other work at last row 0 (λ z. omega arith)
 
-          at_same : get_or keys3 at 0 ≡ get_or keys2 at 0
-          at_same = Q.others at (λ z. h (sym z))
+          at_same : get_or Q3.keys at 0 ≡ get_or Q2.keys at 0
+          at_same = Z.others at (λ z. omega arith)
 
-          fresh3 : (get_or keys3 at 0 ≡ none → ⊥) → Queued pool3 (get_or heads3 (get_or keys3 at 0) 0) at
+          fresh3 : (get_or Q3.keys at 0 ≡ none → ⊥) → Queued Q3.pool (get_or Q3.heads (get_or Q3.keys at 0) 0) at
           fresh3 s =
-              let t : get_or keys2 at 0 ≡ none → ⊥ = λ z. s (at_same ∙ z) in
-              rw at_same (Q.longer.moved (get_or keys2 at 0) at (below2 t) (R.fresh t))
+              let t : get_or Q2.keys at 0 ≡ none → ⊥ = λ z. s (at_same ∙ z) in
+              rw at_same (Z.longer.moved (get_or Q2.keys at 0) at (below2 t) (R.fresh t))
             where
-              below2 : (get_or keys2 at 0 ≡ none → ⊥) → get_or keys2 at 0 < 4096
+              below2 : (get_or Q2.keys at 0 ≡ none → ⊥) → get_or Q2.keys at 0 < 4096
               below2 t = ⊎_elim
                   (λ l. ⊎_elim (λ e. absurd (t e)) (λ m. omega (arith, small)) (R.here l).bound)
                   (λ l. absurd (t (R.last (omega (arith, A.after_is.most)))))
                   (lt_or_ge after len)
 
-          higher3 : WhenBuilt P n (λ D. row < get_or keys3 last 0)
+          higher3 : WhenBuilt P n (λ D. row < get_or Q3.keys last 0)
           higher3 prefixes B =
-              above-right P n small (get_or (set work at row) last 0) row (get_or keys3 last 0) (codes' last (omega (arith, at_below, before))) A.below
-              (rw at_code at (Q.here at_below)) prefixes B
+              above-right P n small (get_or (set work at row) last 0) row (get_or Q3.keys last 0) (codes' last (omega (arith, at_below, before))) A.below
+              (rw at_code at (Z.here at_below)) prefixes B
 
-          pub turned-last : Turned P n len words work keys heads pool count row last at next words' (set work at row) keys3 heads3 pool3 count3
-          turned-last = turned keys3 heads3 pool3 count3 Q.keys_room (longer_trans heads pool count heads2 pool2 count2 heads3 pool3 count3 R.longer Q.longer) (omega (arith, R.few, Q.few))
+          pub turned-last : Turned P n len S work row last at next Q3 (set work at row)
+          turned-last = turned Q3 (Z.same_live ∙ on2) (longer_trans S Q2 Q3 longer2 Z.longer) (omega (arith, R.few, Z.few, count1))
               (rw at_same key2)
-              (Q.others next (λ z. omega (arith, N.after, before)) ∙ next-key)
-              (λ l. rw last_code_lem at (renewed-key P n bits' len (set work at row) keys2 heads2 pool2 count2 last at keys3 heads3 pool3 count3 (at_last l) Q))
-              (λ i a b c. Q.others i (c before) ∙ others2 i a b)
+              (Z.others next (λ z. omega (arith, N.after, before)) ∙ next-key)
+              (λ l. rw last_code_lem at (renewed-key P n bits' len (set work at row) Q2 last at Q3 (at_last l) Z))
+              (λ i a b c. Z.others i (c before) ∙ others2 i a b)
               fresh3
-              (λ l. Q.fresh)
+              (λ l. Z.fresh)
               (λ prefixes B. rw at_same (higher2 prefixes B))
               (λ l. higher3)

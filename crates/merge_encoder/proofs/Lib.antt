@@ -3,12 +3,12 @@ pub mod Living
 pub mod Places
 pub mod Starting
 pub mod Turning
-pub mod Gathering
 pub mod Queueing
 pub mod Renewing
-pub mod Keying
 pub mod Passing
+pub mod Gathering
 pub mod Joining
+pub mod Keying
 pub mod Running
 pub mod Emptying
 pub mod Merging

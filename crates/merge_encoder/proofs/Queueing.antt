@@ -1,15 +1,16 @@
 -- The queues: what an entry leads to, and one entry more. Assumes nothing.
 use mathlib.Core.Path.{◌≡◌, refl, sym, ap, subst, ◌∙◌}
-use mathlib.Core.Logic.{◌⊎◌, inl, inr, ⊎_elim}
+use mathlib.Core.Logic.{◌⊎◌, inl, inr}
 use mathlib.Core.List.{List}
-use Prim.Native.Nat.{ℕ, zero, suc, ◌+◌, ◌*◌, ◌/◌, ◌%◌, ◌≤◌, ◌<◌}
+use Prim.Native.Nat.{ℕ, zero, suc, ◌+◌, ◌*◌, ◌/◌, ◌%◌, ◌<◌}
 use native.Mathlib.Decide.{ℕ_discrete}
 use native.Mathlib.Omega.{arith}
-use lib.ListN.{length-set, length-replicate, get_or-replicate, replicate, get_or, set}
+use lib.ListN.{length-replicate, get_or-replicate, replicate, get_or, set}
 use lib.Seq.{get_or-set_same, get_or-set_other}
 use Rattle.theory.specs.Dictionary.{none}
-use Rattle.theory.proofs.Lists.{lt_or_ge}
-use Rattle.merge_encoder.specs.Queues.{steps, Queued, Queues, Longer, PushReady, Pushed}
+use Rattle.merge_encoder.specs.declared.joins.Joins.{Joins}
+use Rattle.merge_encoder.specs.Queues.{steps, Queued, Queues}
+use Rattle.merge_encoder.specs.Pushing.{Longer, PushReady, Pushed}
 
 -- queues without entries
 pub queues-start : Queues (replicate 4096 0) (replicate 12289 0) 1
@@ -54,9 +55,6 @@ module _ (heads pool : List ℕ) (count : ℕ) (Q : Queues heads pool count) whe
           is = ap (λ (v : ℕ). get_or pool' v 0 % 4096) s.0 ∙ ap (λ (v : ℕ). v % 4096) (same (steps pool q.step e) s.1) ∙ q.is;
         }
 
-  pub longer-same : Longer heads pool count heads pool count
-  longer-same = record { queues = Q; least = omega arith; kept = λ e p h q. q; moved = λ r p h q. q }
-
   -- one entry more
   module _ (row place v : ℕ) (below : row < 4096) (room : count < 12289) (placed : place < 4096) (is : v ≡ get_or heads row 0 * 4096 + place) where
     abbrev pool' : List ℕ
@@ -74,21 +72,8 @@ module _ (heads pool : List ℕ) (count : ℕ) (Q : Queues heads pool count) whe
     head : get_or (set heads row count) row 0 ≡ count
     head = get_or-set_same heads row count 0 (omega (arith, Q.heads_room))
 
-    queues' : Queues (set heads row count) (set pool count v) (count + 1)
-    queues' = record {
-      heads_room = length-set heads row count ∙ Q.heads_room;
-      pool_room = length-set pool count v ∙ Q.pool_room;
-      some = omega arith;
-      newest = λ r h. newest' r h (ℕ_discrete r row);
-      older = λ e h. ⊎_elim
-          (λ l. omega (arith, same e l, Q.older e l))
-          (λ (l : count ≤ e). let z : e ≡ count = omega arith in rw z (omega (arith, new, Q.newest row below)))
-          (lt_or_ge e count);
-    }
-      where
-        newest' : (r : ℕ) → r < 4096 → Dec (r ≡ row) → get_or (set heads row count) r 0 < count + 1
-        newest' r h (yes z) = rw z (omega (arith, head))
-        newest' r h (no z) = omega (arith, get_or-set_other heads row r count 0 z, Q.newest r h)
+    kept' : (e p : ℕ) → e < count → Queued pool e p → Queued (set pool count v) e p
+    kept' = queued-same pool' same
 
     moved' : (r p : ℕ) → r < 4096 → Dec (r ≡ row) → Queued pool (get_or heads r 0) p → Queued (set pool count v) (get_or (set heads row count) r 0) p
     moved' r p h (yes z) q =
@@ -101,32 +86,42 @@ module _ (heads pool : List ℕ) (count : ℕ) (Q : Queues heads pool count) whe
         }
     moved' r p h (no z) q = rw (get_or-set_other heads row r count 0 z) (queued-same pool' same (get_or heads r 0) p (Q.newest r h) q)
 
-    pub longer-more : Longer heads pool count (set heads row count) (set pool count v) (count + 1)
-    longer-more = record { queues = queues'; least = omega arith; kept = queued-same pool' same; moved = λ r p h q. moved' r p h (ℕ_discrete r row) q }
-
-    pub queued-new : Queued (set pool count v) (get_or (set heads row count) row 0) place
+    queued-new : Queued (set pool count v) (get_or (set heads row count) row 0) place
     queued-new = rw head (record { step = 0; some = Q.some; is = rw new (omega arith) })
 
-pub longer_trans : (heads pool : List ℕ) (count : ℕ) (heads1 pool1 : List ℕ) (count1 : ℕ) (heads2 pool2 : List ℕ) (count2 : ℕ)
-    → Longer heads pool count heads1 pool1 count1 → Longer heads1 pool1 count1 heads2 pool2 count2 → Longer heads pool count heads2 pool2 count2
-longer_trans heads pool count heads1 pool1 count1 heads2 pool2 count2 L M = record {
-  queues = M.queues;
+-- no entry more
+pub longer_same : (Q Q' : Joins) → Q'.heads ≡ Q.heads → Q'.pool ≡ Q.pool → Q'.count ≡ Q.count → Longer Q Q'
+longer_same Q Q' h p c = record { least = omega arith; kept = λ _ _ _ q. rw p q; moved = λ _ _ _ q. rw (p, h) q }
+
+pub longer_trans : (Q R S : Joins) → Longer Q R → Longer R S → Longer Q S
+longer_trans Q R S L M = record {
   least = omega (arith, L.least, M.least);
   kept = λ e p h q. M.kept e p (omega (arith, L.least)) (L.kept e p h q);
   moved = λ r p h q. M.moved r p h (L.moved r p h q);
 }
 
-module _ (keys heads pool : List ℕ) (count place row : ℕ) (R : PushReady keys heads pool count place row) where
-  pub pushed_none : row ≡ none → Pushed keys heads pool count place row (set keys place row) heads pool count
-  pushed_none e = record { is = refl; longer = longer-same heads pool count R.queues; few = omega arith; fresh = λ z. absurd (z e) }
+module _ (Q : Joins) (place row : ℕ) (R : PushReady Q place row) (Q' : Joins) (on : Q'.live ≡ Q.live) (keys : Q'.keys ≡ set Q.keys place row) where
+  pub pushed_none : row ≡ none → Q'.heads ≡ Q.heads → Q'.pool ≡ Q.pool → Q'.count ≡ Q.count → Pushed Q place row Q'
+  pushed_none e h p c = record {
+    is = keys;
+    live = on;
+    longer = longer_same Q Q' h p c;
+    few = omega arith;
+    fresh = λ z. absurd (z e);
+  }
 
-  pub pushed-some : (queue v : ℕ) → queue ≡ row → (row ≡ none → ⊥) → v ≡ get_or heads queue 0 * 4096 + place
-      → Pushed keys heads pool count place row (set keys place row) (set heads queue count) (set pool count v) (count + 1)
-  pushed-some queue v e s is =
-      let i : v ≡ get_or heads row 0 * 4096 + place = is ∙ ap (λ (r : ℕ). get_or heads r 0 * 4096 + place) e in
-      rw e (record {
-        is = refl;
-        longer = longer-more heads pool count R.queues row place v (R.row_below s) R.room R.place_below i;
+  pub pushed-some : (v : ℕ) → (row ≡ none → ⊥) → v ≡ get_or Q.heads row 0 * 4096 + place
+      → Q'.heads ≡ set Q.heads row Q.count → Q'.pool ≡ set Q.pool Q.count v → Q'.count ≡ Q.count + 1 → Pushed Q place row Q'
+  pushed-some v s is h p c =
+      let below : row < 4096 = R.row_below s in
+      record {
+        is = keys;
+        live = on;
+        longer = record {
+          least = omega arith;
+          kept = λ e i l q. rw p (kept' Q.heads Q.pool Q.count Q.queues row place v below R.room R.place_below is e i l q);
+          moved = λ r i l q. rw (p, h) (moved' Q.heads Q.pool Q.count Q.queues row place v below R.room R.place_below is r i l (ℕ_discrete r row) q);
+        };
         few = omega arith;
-        fresh = λ z. queued-new heads pool count R.queues row place v (R.row_below s) R.room R.place_below i;
-      })
+        fresh = λ _. rw (p, h) (queued-new Q.heads Q.pool Q.count Q.queues row place v below R.room R.place_below is);
+      }

@@ -1,18 +1,16 @@
 -- One key found anew: the row that has two codes as its parts, in terms of the dictionary, and its place in the queue of the row. Assumes nothing.
-use mathlib.Core.Path.{◌≡◌, refl, sym, ◌∙◌}
+use mathlib.Core.Path.{◌≡◌, sym, ◌∙◌}
 use mathlib.Core.Logic.{⊎_elim}
 use mathlib.Core.List.{List}
-use mathlib.Core.Bool.{true, false}
-use Prim.Native.Nat.{ℕ, ◌≤◌, ◌<◌}
+use mathlib.Core.Bool.{true}
+use Prim.Native.Nat.{ℕ, ◌<◌}
 use native.Mathlib.Decide.{ℕ_discrete}
 use native.Mathlib.Omega.{arith}
-use lib.Dec.{eqb}
-use lib.ListN.{length, length-set, get_or}
+use lib.ListN.{length, get_or}
 use lib.Seq.{get_or-set_same, get_or-set_other}
-use borrow.Author.Tests.{eqb-true}
 use Rattle.theory.specs.Dictionary.{Dictionary, none}
 use Rattle.theory.specs.Paper.{listed}
-use Rattle.theory.proofs.Lists.{true-false, eqb_eq}
+use Rattle.theory.proofs.Lists.{true-false}
 use Rattle.theory.proofs.PairSteps.{listed-one}
 use Rattle.theory.proofs.Stage.{spell-hit}
 use Rattle.theory.proofs.Merge.{distinct}
@@ -20,8 +18,9 @@ use Rattle.pair_check.specs.Pair.{PairReady, JoinReady, JoinIs}
 use Rattle.built_tables.specs.Built.{dictionary_of, Built}
 use Rattle.built_tables.proofs.Rows.{count_is, places_ready, lawful-is, tells, distinct-rows}
 use Rattle.built_tables.proofs.InForm.{ready}
-use Rattle.merge_encoder.specs.Queues.{PushReady, Pushed}
-use Rattle.merge_encoder.specs.Steps.{JoinKey, RenewReady, Renewed, Later}
+use Rattle.merge_encoder.specs.declared.joins.Joins.{Joins}
+use Rattle.merge_encoder.specs.Pushing.{Pushed}
+use Rattle.merge_encoder.specs.Steps.{JoinKey, RenewReady, Renewed}
 use Rattle.tables.specs.Tables.{PairTables, with_prefixes}
 
 -- k is the row below n that has x and y as its parts, or none
@@ -57,31 +56,26 @@ module _ (P : PairTables) (n x y k : ℕ) (hx : x < n) (hy : y < n) (J : JoinIs 
   pub join-key : JoinKey P n x y k
   join-key = record { bound = J.bound; built = λ prefixes B. record { is = some prefixes B; only = λ r h e. only prefixes B r h e (ℕ_discrete k none) } }
 
-module _ (P : PairTables) (n len : ℕ) (work keys heads pool : List ℕ) (count at next : ℕ) (R : RenewReady P n len work keys heads pool count at next) where
-  at_room : at < length keys
-  at_room = omega (arith, R.keys_room, R.at_below, R.codes_ready.few)
+module _ (P : PairTables) (n len : ℕ) (work : List ℕ) (Q : Joins) (at next : ℕ) (R : RenewReady P n len work Q at next) where
+  at_room : at < length Q.keys
+  at_room = omega (arith, Q.keys_room, R.at_below, R.codes_ready.few)
 
-  module _ (row : ℕ) (keys' heads' pool' : List ℕ) (r : ℕ) (Q : Pushed keys heads pool count at row keys' heads' pool' r) where
-    here : get_or keys' at 0 ≡ row
-    here = rw Q.is (get_or-set_same keys at row 0 at_room)
+  module _ (row : ℕ) (Q' : Joins) (A : Pushed Q at row Q') where
+    here : get_or Q'.keys at 0 ≡ row
+    here = rw A.is (get_or-set_same Q.keys at row 0 at_room)
 
-    renewed : (next ≡ len → row ≡ none) → (next < len → JoinKey P n (get_or work at 0) (get_or work next 0) row)
-        → Renewed P n len work keys heads pool count at next keys' heads' pool' r
+    renewed : (next ≡ len → row ≡ none) → (next < len → JoinKey P n (get_or work at 0) (get_or work next 0) row) → Renewed P n len work Q at next Q'
     renewed f g = record {
-      keys_room = rw Q.is (length-set keys at row ∙ R.keys_room);
       last = λ e. here ∙ f e;
       here = λ l. rw here (g l);
-      others = λ i h. rw Q.is (get_or-set_other keys at i row 0 h);
-      longer = Q.longer;
-      few = Q.few;
-      fresh = λ s. rw here (Q.fresh (λ z. s (here ∙ z)));
+      others = λ i h. rw A.is (get_or-set_other Q.keys at i row 0 h);
+      same_live = A.live;
+      longer = A.longer;
+      few = A.few;
+      fresh = λ s. rw here (A.fresh (λ z. s (here ∙ z)));
     }
 
-  pub renewed-last : (keys' heads' pool' : List ℕ) (r : ℕ) → next ≡ len → Pushed keys heads pool count at none keys' heads' pool' r
-      → Renewed P n len work keys heads pool count at next keys' heads' pool' r
-  renewed-last keys' heads' pool' r e Q = renewed none keys' heads' pool' r Q (λ _. refl) (λ l. absurd (omega arith))
-
-  module _ (h : next ≡ len → ⊥) where
+  module _ (h : next < len) where
     pub join-ready : JoinReady P n n n (get_or work at 0) (get_or work next 0)
     join-ready = record {
       placed = R.tables.rows_ready.places_ready.placed;
@@ -90,30 +84,10 @@ module _ (P : PairTables) (n len : ℕ) (work keys heads pool : List ℕ) (count
       right_room = R.tables.parts_ready.right_room;
       below = omega arith;
       left_below = R.codes_ready.codes at R.at_below;
-      right_below = R.codes_ready.codes next (omega (arith, R.next_below));
+      right_below = R.codes_ready.codes next h;
     }
 
     module _ (row : ℕ) (J : JoinIs P n n n (get_or work at 0) (get_or work next 0) row) where
-      pub push-ready : PushReady keys heads pool count at row
-      push-ready = record {
-        queues = R.queues;
-        keys_room = R.keys_room;
-        room = R.room;
-        place_below = omega (arith, R.at_below, R.codes_ready.few);
-        row_below = λ s. ⊎_elim (λ e. absurd (s e)) (λ l. omega (arith, R.tables.rows_ready.places_ready.placed.few)) J.bound;
-      }
-
-      pub renewed-more : (keys' heads' pool' : List ℕ) (r : ℕ) → Pushed keys heads pool count at row keys' heads' pool' r
-          → Renewed P n len work keys heads pool count at next keys' heads' pool' r
-      renewed-more keys' heads' pool' r Q =
-          renewed row keys' heads' pool' r Q (λ e. absurd (h e)) (λ l. join-key P n (get_or work at 0) (get_or work next 0) row join-ready.left_below join-ready.right_below J)
-
-module _ (keys : List ℕ) (last at row : ℕ) where
-  pub later-none : at ≤ last → Later keys last at row false
-  later-none h = record { yes = λ e. absurd (true-false (sym e)); no = λ e l z. omega arith }
-
-  pub later_test : last < at → Later keys last at row (eqb (get_or keys last 0) row)
-  later_test h = record {
-    yes = λ e. (h, eqb-true (get_or keys last 0) row e);
-    no = λ e l z. true-false (sym (eqb_eq (get_or keys last 0) row z) ∙ e);
-  }
+      pub renewed-more : (Q' : Joins) → Pushed Q at row Q' → Renewed P n len work Q at next Q'
+      renewed-more Q' A =
+          renewed row Q' A (λ e. absurd (omega arith)) (λ l. join-key P n (get_or work at 0) (get_or work next 0) row join-ready.left_below join-ready.right_below J)

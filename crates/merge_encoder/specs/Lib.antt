@@ -1,4 +1,5 @@
 pub mod Encoding
 pub mod Live
 pub mod Queues
+pub mod Pushing
 pub mod Steps

@@ -1,5 +1,5 @@
 -- The codes that are left stand at the live places, which are the set bits of a bit set.
-use Rattle.std.specs.Prelude.{◌≡◌, List, [], ◌∷◌, Bool, true, false, ℕ, zero, suc, ◌≤◌, ◌<◌, get_or}
+use Rattle.std.specs.Prelude.{◌≡◌, List, [], ◌∷◌, Bool, true, false, ℕ, zero, suc, ◌≤◌, ◌<◌, get_or, Option, None, Some}
 
 abbrev pub kept : Bool → ℕ → List ℕ → List ℕ
 kept true x s = x ∷ s
@@ -22,3 +22,13 @@ pub record LastLive (bits : ℕ → Bool) (at r : ℕ) : Type 0 where
   pub most : r ≤ at
   pub clear : (i : ℕ) → i < at → (r < at → r < i) → bits i ≡ false
   pub here : r < at → bits r ≡ true
+
+-- the live place next after a place and below the end, or none
+abbrev pub NextIs : (ℕ → Bool) → ℕ → ℕ → Option ℕ → Type 0
+NextIs bits at end None = NextLive bits at end end
+NextIs bits at end (Some r) = (r < end) × NextLive bits at end r
+
+-- the last live place before a place, or none
+abbrev pub LastIs : (ℕ → Bool) → ℕ → Option ℕ → Type 0
+LastIs bits at None = LastLive bits at at
+LastIs bits at (Some r) = (r < at) × LastLive bits at r

@@ -5,27 +5,24 @@ use mathlib.Core.Logic.{◌↔◌}
 use mathlib.Core.Option.{none, some}
 use mathlib.Core.List.{List, ◌++◌}
 use Prim.Native.Nat.{ℕ, ◌≤◌, ◌<◌}
-use native.Mathlib.Omega.{arith}
 use lib.ListN.{length, drop}
+use Rattle.std.specs.Prelude.{Option, Some, None, Result, Ok, Err}
 use Rattle.causes.specs.declared.Cause.{Cause}
 use Rattle.causes.specs.declared.Cause.TheVariants.{TooShort, OutOfForm, TooLong}
+use Rattle.causes.specs.Causes.{limit_place}
 use Rattle.causes.specs.Call.{to_number}
-use Rattle.causes.proofs.Calls.{refused-answer, given-answer}
+use Rattle.causes.proofs.Calls.{refused-answer, given-answer, value-given}
 use Rattle.phrase_file.specs.Form.{rows}
 use Rattle.theory.specs.Dictionary.{Dictionary}
 use Rattle.theory.specs.Merge.{encode}
 use Rattle.theory.specs.CountLimit.{Limited, counted, over, count_till_limit}
 use Rattle.theory.proofs.Demands.{limited_count_is, limited_count_over}
 use Rattle.tables.specs.Tables.{Tables}
-use Rattle.causes.specs.declared.Answer.{Answer}
-use Rattle.causes.specs.declared.Answer.TheVariants.{Number, Refused}
-use Rattle.tables.specs.declared.Form.TheVariants as Form
 use Rattle.tables.specs.InForm.{form_of}
 use Rattle.built_tables.specs.Built.{dictionary_of, Built}
 use Rattle.built_tables.proofs.InForm.{is_in_form}
-use Rattle.causes.specs.declared.LimitAnswer.{LimitAnswer}
 use Rattle.byte_pair_encoding.specs.Refusals.{send_refusal, count_refusal}
-use Rattle.byte_pair_encoding.specs.Answers.{limit_given, to_limited}
+use Rattle.limited_count.specs.Answers.{limited_of}
 use Rattle.byte_pair_encoding.specs.Sending.{Sends}
 use Rattle.byte_pair_encoding.specs.Counting.{Counts, CountsTillLimit}
 use Rattle.byte_pair_encoding.proofs.Refusals.{count_as_send, too_long, short-output, short_work, out_of_form, not_refused}
@@ -42,17 +39,17 @@ module _ (T : Tables) (text : List ℕ) (n : ℕ) (B : Built T n) (short : lengt
 -- encoders
 
 -- the codes w are answered by their number and stand at the front of the output, the rest of it as before
-pub record SentCodes (w out out' : List ℕ) (r : Answer) : Type 0 where
-  pub answer : r ≡ Number (length w)
+pub record SentCodes (w out out' : List ℕ) (r : Result ℕ Cause) : Type 0 where
+  pub answer : r ≡ Ok (length w)
   pub codes : out' ≡ w ++ drop (length w) out
 
 -- a refusal: the buffers are unchanged
-pub record SendRefused (cause : Cause) (out work out' work' : List ℕ) (r : Answer) : Type 0 where
-  pub answer : r ≡ Refused cause
+pub record SendRefused (cause : Cause) (out work out' work' : List ℕ) (r : Result ℕ Cause) : Type 0 where
+  pub answer : r ≡ Err cause
   pub out_kept : out' ≡ out
   pub work_kept : work' ≡ work
 
-module _ (M : Dictionary → List ℕ → List ℕ) (T : Tables) (text out work out' work' : List ℕ) (r : Answer)
+module _ (M : Dictionary → List ℕ → List ℕ) (T : Tables) (text out work out' work' : List ℕ) (r : Result ℕ Cause)
     (s : Sends M T text out work out' work' r) where
   open T use {file}
 
@@ -73,7 +70,7 @@ module _ (M : Dictionary → List ℕ → List ℕ) (T : Tables) (text out work 
   sends_short_work s o h = sends_refused TooShort (short_work T text out work s o h)
 
   pub sends_out_of_form : length text ≤ 4096 → length text ≤ length out → length text ≤ length work
-      → form_of T ≡ Form.Out → SendRefused OutOfForm out work out' work' r
+      → form_of T ≡ None → SendRefused OutOfForm out work out' work' r
   sends_out_of_form s o w e = sends_refused OutOfForm (out_of_form T text out work s o w e)
 
   pub sends_codes : (n : ℕ) → Built T n → length text ≤ 4096 → length text ≤ length out → length text ≤ length work
@@ -82,56 +79,63 @@ module _ (M : Dictionary → List ℕ → List ℕ) (T : Tables) (text out work 
       let e = sending_allowed T text n B short out work o w in
       let b = (s.given e).built n B in
       record {
-        answer = given-answer to_number s e ∙ ap Number b.count_is;
+        answer = given-answer to_number s e ∙ ap Ok b.count_is;
         codes = b.codes_are ∙ ap (λ (k : ℕ). M (dictionary_of file) text ++ drop k out) b.count_is;
       }
 
 -- `count`
-module _ (T : Tables) (text work work' : List ℕ) (r : Answer)
+module _ (T : Tables) (text work work' : List ℕ) (r : Result ℕ Cause)
     (s : Counts T text work work' r) where
   open T use {file}
 
-  pub counts-refused : (cause : Cause) → count_refusal T text work ≡ some cause → (r ≡ Refused cause) × (work' ≡ work)
+  pub counts-refused : (cause : Cause) → count_refusal T text work ≡ some cause → (r ≡ Err cause) × (work' ≡ work)
   counts-refused cause e = (refused-answer to_number s e, s.refused cause e)
 
   pub counts-codes : (n : ℕ) → Built T n → length text ≤ 4096 → length text ≤ length work
-      → r ≡ Number (length (encode (dictionary_of file) text))
+      → r ≡ Ok (length (encode (dictionary_of file) text))
   counts-codes n B short w =
       let e = counting_allowed T text n B short work w in
-      given-answer to_number s e ∙ ap Number ((s.given e).built n B)
+      given-answer to_number s e ∙ ap Ok ((s.given e).built n B)
 
 -- `count_till_limit`
-module _ (T : Tables) (text : List ℕ) (limit : ℕ) (work work' : List ℕ) (r : LimitAnswer)
+
+-- the definition's answer as the call gives it
+abbrev pub limit_given : Limited → Option ℕ
+limit_given (counted count) = Some count
+limit_given over = None
+
+given_back : (count : Option ℕ) → limit_given (limited_of count) ≡ count
+given_back (Some count) = refl
+given_back None = refl
+
+module _ (T : Tables) (text : List ℕ) (limit : ℕ) (work work' : List ℕ) (r : Result (Option ℕ) Cause)
     (s : CountsTillLimit T text limit work work' r) where
   open T use {file}
 
-  pub limits-refused : (cause : Cause) → count_refusal T text work ≡ some cause
-      → (r ≡ LimitAnswer.Refused cause) × (work' ≡ work)
-  limits-refused cause e = (refused-answer to_limited s e, s.refused cause e)
+  pub limits-refused : (cause : Cause) → count_refusal T text work ≡ some cause → (r ≡ Err cause) × (work' ≡ work)
+  limits-refused cause e = (refused-answer limit_place s e, s.refused cause e)
 
   module _ (n : ℕ) (B : Built T n) (short : length text ≤ 4096) (room : length text ≤ length work) where
+    value-is : limited_of s.value ≡ count_till_limit (dictionary_of file) text limit
+    value-is = (s.given (counting_allowed T text n B short work room)).built n B
+
     -- the answer is the definition's
-    pub limits-count : r ≡ limit_given (count_till_limit (dictionary_of file) text limit)
+    pub limits-count : r ≡ Ok (limit_given (count_till_limit (dictionary_of file) text limit))
     limits-count =
-        let e = counting_allowed T text n B short work room in
-        given-answer to_limited s e ∙ ap limit_given ((s.given e).built n B)
+        given-answer limit_place s (counting_allowed T text n B short work room)
+        ∙ ap Ok (sym (given_back s.value) ∙ ap limit_given value-is)
 
-    counted_of : (l : Limited) (k : ℕ) → limit_given l ≡ LimitAnswer.Counted k → l ≡ counted k
-    counted_of (counted m) k e = let q : m ≡ k = cc in ap counted q
-    counted_of over k e = absurd (let z : ◌≡◌ {A = ℕ} 0 1 = cc in omega arith)
-
-    over_of : (l : Limited) → limit_given l ≡ LimitAnswer.Over → l ≡ over
-    over_of (counted m) e = absurd (let z : ◌≡◌ {A = ℕ} 0 1 = cc in omega arith)
-    over_of over e = refl
+    said : (count : Option ℕ) → r ≡ Ok count → limited_of count ≡ count_till_limit (dictionary_of file) text limit
+    said count e = ap limited_of (sym (value-given s count e).1) ∙ value-is
 
     -- a count that is given is the number of the merge procedure's codes, and does not exceed the limit
-    pub limits-counted : (k : ℕ) → r ≡ LimitAnswer.Counted k → (k ≡ length (encode (dictionary_of file) text)) × (k ≤ limit)
+    pub limits-counted : (k : ℕ) → r ≡ Ok (Some k) → (k ≡ length (encode (dictionary_of file) text)) × (k ≤ limit)
     unfolding dictionary_of
-    limits-counted k e = limited_count_is (rows file) B.accepted text limit k (counted_of _ k (sym limits-count ∙ e))
+    limits-counted k e = limited_count_is (rows file) B.accepted text limit k (sym (said (Some k) e))
 
     -- it is "over" exactly if that number exceeds the limit
-    pub limits-over : (r ≡ LimitAnswer.Over) ↔ (limit < length (encode (dictionary_of file) text))
+    pub limits-over : (r ≡ Ok None) ↔ (limit < length (encode (dictionary_of file) text))
     unfolding dictionary_of
     limits-over =
         let q = limited_count_over (rows file) B.accepted text limit in
-        (λ e. q.0 (over_of _ (sym limits-count ∙ e)), λ h. limits-count ∙ ap limit_given (q.1 h))
+        (λ e. q.0 (sym (said None e)), λ h. limits-count ∙ ap (λ (l : Limited). Ok (limit_given l)) (q.1 h))

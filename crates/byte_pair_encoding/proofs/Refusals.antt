@@ -6,11 +6,11 @@ use mathlib.Core.Bool.{Bool, true, false, ◌||◌}
 use Prim.Native.Nat.{ℕ, ◌≤◌, ◌<◌}
 use lib.ListN.{length}
 use borrow.Author.Tests.{lt-ltb, le-ltb, ltb-false}
+use Rattle.std.specs.Prelude.{Some, None}
 use Rattle.causes.specs.declared.Cause.TheVariants.{TooShort, OutOfForm, TooLong}
 use Rattle.causes.specs.Order.{other_order, when, over, shorter, first_of}
 use Rattle.causes.proofs.None.{none-applies, neither}
 use Rattle.tables.specs.Tables.{Tables}
-use Rattle.tables.specs.declared.Form.TheVariants.{Rows, Out}
 use Rattle.tables.specs.InForm.{is_out, form_of}
 use Rattle.tables.proofs.Readiness.{form-rows}
 use Rattle.byte_pair_encoding.specs.Refusals.{send_refusal, count_refusal}
@@ -30,7 +30,7 @@ pub record NoRefusal (T : Tables) (text out work : List ℕ) : Type 0 where
   pub short : length text ≤ 4096
   pub out_room : length text ≤ length out
   pub work_room : length text ≤ length work
-  pub is_in_form : (n : ℕ) × (form_of T ≡ Rows n)
+  pub is_in_form : (n : ℕ) × (form_of T ≡ Some n)
 
 module _ (T : Tables) (text out work : List ℕ) where
   pub too_long : 4096 < length text → send_refusal T text out work ≡ some TooLong
@@ -49,12 +49,12 @@ module _ (T : Tables) (text out work : List ℕ) where
           rw (le-ltb 4096 (length text) s, le-ltb (length out) (length text) o, lt-ltb (length work) (length text) h)
 
       module _ (w : length text ≤ length work) where
-        pub out_of_form : form_of T ≡ Out → send_refusal T text out work ≡ some OutOfForm
+        pub out_of_form : form_of T ≡ None → send_refusal T text out work ≡ some OutOfForm
         unfolding send_refusal
         out_of_form e =
             rw (le-ltb 4096 (length text) s, le-ltb (length out) (length text) o, le-ltb (length work) (length text) w, e)
 
-        pub not_refused : (n : ℕ) → form_of T ≡ Rows n → send_refusal T text out work ≡ none
+        pub not_refused : (n : ℕ) → form_of T ≡ Some n → send_refusal T text out work ≡ none
         unfolding send_refusal
         not_refused n e =
             rw (le-ltb 4096 (length text) s, le-ltb (length out) (length text) o, le-ltb (length work) (length text) w, e)

@@ -1,13 +1,13 @@
 -- What `count` and `count_till_limit` of document 01 leave and answer.
-use Rattle.std.specs.Prelude.{◌≡◌, List, ℕ, ◌≤◌, length, drop}
-use Rattle.causes.specs.declared.Answer.{Answer}
-use Rattle.causes.specs.declared.LimitAnswer.{LimitAnswer}
+use Rattle.std.specs.Prelude.{◌≡◌, List, ℕ, ◌≤◌, length, drop, Option, Result}
+use Rattle.causes.specs.declared.Cause.{Cause}
+use Rattle.causes.specs.Causes.{limit_place}
 use Rattle.causes.specs.Call.{Call, to_number}
 use Rattle.theory.specs.Merge.{encode}
 use Rattle.theory.specs.CountLimit.{Limited, counted, count_till_limit}
 use Rattle.tables.specs.Tables.{Tables}
 use Rattle.built_tables.specs.Built.{dictionary_of, Built}
-use Rattle.byte_pair_encoding.specs.Answers.{to_limited}
+use Rattle.limited_count.specs.Answers.{limited_of}
 use Rattle.byte_pair_encoding.specs.Refusals.{count_refusal}
 
 -- the work buffer is written no further than the text is long; its first numbers (scratch) are free
@@ -23,7 +23,7 @@ pub record Counted (T : Tables) (text work work' : List ℕ) (count : ℕ) : Typ
   pub built : (n : ℕ) → Built T n → count ≡ length (encode (dictionary_of T.file) text)
 
 -- `count`: a refusal leaves the work buffer as it was
-abbrev pub Counts : (T : Tables) (text work work' : List ℕ) → Answer → Type 0
+abbrev pub Counts : (T : Tables) (text work work' : List ℕ) → Result ℕ Cause → Type 0
 Counts T text work work' r =
     Call to_number (count_refusal T text work) (λ cause. work' ≡ work) (Counted T text work work') r
 
@@ -36,7 +36,9 @@ pub record CountedTillLimit (T : Tables) (text : List ℕ) (limit : ℕ) (work w
   pub worked : Worked text work work'
   pub built : (n : ℕ) → Built T n → limited ≡ count_till_limit (dictionary_of T.file) text limit
 
--- `count_till_limit`: a refusal leaves the work buffer as it was
-abbrev pub CountsTillLimit : (T : Tables) (text : List ℕ) (limit : ℕ) (work work' : List ℕ) → LimitAnswer → Type 0
+-- `count_till_limit`: a refusal leaves the work buffer as it was; none is "over"
+abbrev pub CountsTillLimit : (T : Tables) (text : List ℕ) (limit : ℕ) (work work' : List ℕ)
+    → Result (Option ℕ) Cause → Type 0
 CountsTillLimit T text limit work work' r =
-    Call to_limited (count_refusal T text work) (λ cause. work' ≡ work) (CountedTillLimit T text limit work work') r
+    Call limit_place (count_refusal T text work) (λ cause. work' ≡ work)
+    (λ count. CountedTillLimit T text limit work work' (limited_of count)) r

@@ -1,6 +1,5 @@
 pub mod Refusals
-pub mod Answers
+pub mod Checked
 pub mod Sending
-pub mod Methods
 pub mod Counting
 pub mod Pair

@@ -1,9 +1,8 @@
 -- What the public pair check answers.
-use Rattle.std.specs.Prelude.{◌≡◌, [], ◌∷◌, Bool, ℕ}
+use Rattle.std.specs.Prelude.{◌≡◌, [], ◌∷◌, Bool, ℕ, Result}
 use Rattle.std.proofs.Math.Option.{Option}
 use Rattle.causes.specs.declared.Cause.{Cause}
 use Rattle.causes.specs.declared.Cause.TheVariants.{OutOfForm}
-use Rattle.causes.specs.declared.PairAnswer.{PairAnswer}
 use Rattle.causes.specs.Order.{other_order, when, unknown, first_of}
 use Rattle.causes.specs.Call.{Call, to_passes, no_buffer}
 use Rattle.theory.specs.PairCheck.{passes}
@@ -21,5 +20,5 @@ abbrev pub PairIs : Tables → ℕ → ℕ → Bool → Type 0
 PairIs T token1 token2 b = (n : ℕ) → Built T n → b ≡ passes (dictionary_of T.file) n token1 token2
 
 -- `is_valid_token_pair`
-abbrev pub PairChecked : (T : Tables) (token1 token2 : ℕ) → PairAnswer → Type 0
+abbrev pub PairChecked : (T : Tables) (token1 token2 : ℕ) → Result Bool Cause → Type 0
 PairChecked T token1 token2 r = Call to_passes (pair_refusal T token1 token2) no_buffer (PairIs T token1 token2) r

@@ -1,6 +1,6 @@
 -- What the five encoders of document 01 leave and answer, whatever is encoded.
-use Rattle.std.specs.Prelude.{◌≡◌, List, ◌++◌, ℕ, ◌≤◌, ◌<◌, length, get_or, drop}
-use Rattle.causes.specs.declared.Answer.{Answer}
+use Rattle.std.specs.Prelude.{◌≡◌, List, ◌++◌, ℕ, ◌≤◌, ◌<◌, length, get_or, drop, Result}
+use Rattle.causes.specs.declared.Cause.{Cause}
 use Rattle.causes.specs.Call.{Call, to_number}
 use Rattle.phrase_file.specs.Form.{rows}
 use Rattle.theory.specs.Dictionary.{Dictionary}
@@ -31,7 +31,8 @@ pub record Sent (M : Dictionary → List ℕ → List ℕ) (T : Tables) (text ou
   pub built : (n : ℕ) → Built T n → SentAll (M (dictionary_of T.file) text) out out' count
 
 -- an encoder that sends M: a refusal leaves both buffers as they were; else the answer is the number of codes
-abbrev pub Sends : (M : Dictionary → List ℕ → List ℕ) (T : Tables) (text out work out' work' : List ℕ) → Answer → Type 0
+abbrev pub Sends : (M : Dictionary → List ℕ → List ℕ) (T : Tables) (text out work out' work' : List ℕ)
+    → Result ℕ Cause → Type 0
 Sends M T text out work out' work' r =
     Call to_number (send_refusal T text out work) (λ cause. (out' ≡ out) × (work' ≡ work))
     (Sent M T text out work out' work') r

@@ -3,32 +3,20 @@
 ghost use Rattle.byte_pair_encoding.specs.Pair.{PairChecked};
 ghost use Rattle.tables.specs.Tables.{lent};
 
-use causes::{Cause, PairAnswer};
-use tables::Form;
+use causes::Cause;
+use tables::Tables;
 
 // Whether token1 and token2 may stand beside each other.
-pub fn is_valid_token_pair(
-    file: &[u8],
-    places: &[u32],
-    lefts: &[u32],
-    rights: &[u32],
-    prefixes: &[u32],
-    area: &[u32],
-    token1: u32,
-    token2: u32,
-) -> PairAnswer
-    ensures { PairChecked (lent file places lefts rights prefixes area) token1 token2 result }
+pub fn is_valid_token_pair(tables: &Tables<'_>, token1: u32, token2: u32) -> Result<bool, Cause>
+    ensures { PairChecked (lent tables.now) token1 token2 result }
 {
-    let Form::Rows(n) = tables::tables_in_form(file, places, lefts, rights, prefixes, area) else {
-        return PairAnswer::Refused(Cause::OutOfForm);
-    };
+    let tables = tables::in_form(tables).ok_or(Cause::OutOfForm)?;
+    let n = tables.rows.n;
     if n <= token1 as usize {
-        return PairAnswer::Refused(Cause::UnknownCode(0));
+        return Err(Cause::UnknownCode(0));
     }
     if n <= token2 as usize {
-        return PairAnswer::Refused(Cause::UnknownCode(1));
+        return Err(Cause::UnknownCode(1));
     }
-    PairAnswer::Passes(pair_check::is_valid_pair_by_parts(
-        file, places, lefts, rights, area, n, n as u32, token1, token2,
-    ))
+    Ok(pair_check::is_valid_pair_by_parts(&tables, n as u32, token1, token2))
 }

@@ -1,13 +1,12 @@
 -- `byte_pair_encoding::count` meets its contract, by the cases of `Counting`. Assumes nothing.
-use mathlib.Core.Path.{sym, ◌∙◌}
 use Rattle.byte_pair_encoding.proofs.Counting.{nothing-counted, count-ready, text-counted}
 use Rattle.byte_pair_encoding.proofs.count.Goals as goal
 
-pub count_core-counted-requires : goal.count_core-counted-requires
-count_core-counted-requires c = count-ready _ _ _ _ (sym c.checked.ensures ∙ c.in-Rows.is)
+pub count_core-requires : goal.count_core-requires
+count_core-requires c = count-ready _ _ _ _ c.in_ok-tables.ensures
 
-pub returns-in-Rows : goal.returns-in-Rows
-returns-in-Rows c = text-counted _ _ _ _ (sym c.checked.ensures ∙ c.in-Rows.is) _ _ c.count_core-counted.ensures
+pub returns-in_err-tables : goal.returns-in_err-tables
+returns-in_err-tables c = nothing-counted _ _ _ _ c.in_err-tables.ensures _ c.from_residual.ensures.1
 
-pub returns-in-Refused : goal.returns-in-Refused
-returns-in-Refused c = nothing-counted _ _ _ _ (sym c.checked.ensures ∙ c.in-Refused.is)
+pub returns : goal.returns
+returns c = text-counted _ _ _ _ c.in_ok-tables.ensures _ _ c.count_core.ensures

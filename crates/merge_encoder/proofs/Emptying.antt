@@ -7,12 +7,12 @@ use Prim.Native.Nat.{ℕ, zero, suc, ◌+◌, ◌-◌, ◌/◌, ◌%◌, ◌≤�
 use native.Mathlib.Omega.{arith}
 use lib.ListN.{length, get_or}
 use Rattle.bitfield.specs.Bits.{is_set}
-use Rattle.theory.specs.Dictionary.{Dictionary, none}
+use Rattle.theory.specs.Dictionary.{Dictionary}
 use Rattle.theory.specs.Paper.{pass, listed}
 use Rattle.theory.proofs.Lists.{bool_cases}
 use Rattle.theory.proofs.Pass.{pass_miss}
 use Rattle.built_tables.specs.Built.{dictionary_of, Built}
-use Rattle.merge_encoder.specs.Encoding.{JoinsReady, WhenBuilt}
+use Rattle.merge_encoder.specs.Encoding.{WhenBuilt}
 use Rattle.merge_encoder.specs.declared.joins.Joins.{Joins}
 use Rattle.merge_encoder.specs.Live.{kept, live}
 use Rattle.merge_encoder.specs.Steps.{JoinKey, KeyIs, Keyed, State, Waiting, During, Ran, RowJoined}
@@ -55,13 +55,7 @@ pub record Emptying (P : PairTables) (n len : ℕ) (S₀ : Joins) (work₀ : Lis
   pub during : WhenBuilt P n (λ D. Waiting S₀ row → During (is_set S.live.words) S row entry 4096)
   pub same : WhenBuilt P n (λ D. pass row (listed D row) (live (is_set S.live.words) work len 0) ≡ pass row (listed D row) (live (is_set S₀.live.words) work₀ len 0))
 
-module _ (P : PairTables) (n len : ℕ) (S₀ : Joins) (work₀ : List ℕ) (row : ℕ) (T : JoinsReady P n) (below : row < n) where
-  few : n ≤ 4096
-  few = T.rows_ready.places_ready.placed.few
-
-  not_none : row ≡ none → ⊥
-  not_none e = omega (arith, below, few)
-
+module _ (P : PairTables) (n len : ℕ) (S₀ : Joins) (work₀ : List ℕ) (row : ℕ) (below : row < n) where
   module _ (S : Joins) (work : List ℕ) (entry : ℕ) (E : Emptying P n len S₀ work₀ row S work entry) where
     older : get_or S.pool entry 0 / 4096 ≤ entry - 1
     older = S.queues.older entry E.known

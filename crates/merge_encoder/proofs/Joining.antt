@@ -112,9 +112,12 @@ module _ (P : PairTables) (n len : ℕ) (words work keys : List ℕ) (T : JoinsR
     here-key = rw (next-some (is_set words) work len at next N here-next) at H.key
 
 module _ (P : PairTables) (n len : ℕ) (S : Joins) (work : List ℕ) (row last at next after : ℕ)
-    (T : JoinsReady P n) (I : State P n len S work)
+    (I : State P n len S work)
     (A : Around (is_set S.live.words) S.keys n len row last at next after) where
   open P use {file}
+
+  T : JoinsReady P n
+  T = I.tables
 
   abbrev bits : ℕ → Bool
   bits = is_set S.live.words
@@ -248,6 +251,7 @@ module _ (P : PairTables) (n len : ℕ) (S : Joins) (work : List ℕ) (row last 
         → Turned P n len S work row last at next Q (set work at row)
     turned Q z g l a b c d e f u v = record {
       state = record {
+        tables = I.tables;
         keyed = record {
           codes_ready = ready';
           key = rw z (keys_after bits bits' work len at next row at_room on N next_below same gone

@@ -65,6 +65,7 @@ module _ (P : PairTables) (n len : ℕ) (work : List ℕ) (Q₀ : Joins) (R : Fi
     pub keying_end : len ≤ next → FirstKeys P n len work Q
     keying_end l = record {
       state = record {
+        tables = R.tables;
         keyed = record {
           codes_ready = R.codes_ready;
           key = λ i h. rw (ap (λ (f : ℕ → Bool). f i) K.all_live ∙ all-below i (omega arith), K.all_live) (⊎_elim (λ m. here i m) (λ m. end i h m) (lt_or_ge (suc i) len));

@@ -43,10 +43,13 @@ closed bits Q row entry at f R = record {
       (R.due i h e);
 }
 
-module _ (P : PairTables) (n len : ℕ) (T : JoinsReady P n)
+module _ (P : PairTables) (n len : ℕ)
     (S : Joins) (work : List ℕ) (row last at next after : ℕ)
     (I : State P n len S work) (A : Around (is_set S.live.words) S.keys n len row last at next after)
     (S' : Joins) (work' : List ℕ) (J : Turned P n len S work row last at next S' work') where
+  T : JoinsReady P n
+  T = I.tables
+
   few : n ≤ 4096
   few = T.rows_ready.places_ready.placed.few
 
@@ -154,7 +157,7 @@ pub record Running (P : PairTables) (n len : ℕ) (S₀ : Joins) (work₀ : List
   pub during : WhenBuilt P n (λ D. (entry : ℕ) → entry < S₀.count → During (is_set S₀.live.words) S₀ row entry first → During (is_set S.live.words) S row entry at)
   pub same : WhenBuilt P n (λ D. pass row (listed D row) (live (is_set S.live.words) work len 0) ≡ pass row (listed D row) (live (is_set S₀.live.words) work₀ len 0))
 
-module _ (P : PairTables) (n len : ℕ) (S₀ : Joins) (work₀ : List ℕ) (row first : ℕ) (T : JoinsReady P n) (below : row < n) where
+module _ (P : PairTables) (n len : ℕ) (S₀ : Joins) (work₀ : List ℕ) (row first : ℕ) (below : row < n) where
   module _ (S : Joins) (work : List ℕ) (at : ℕ) (R : Running P n len S₀ work₀ row first S work at) where
     ran : (at < 4096 → get_or S.keys at 0 ≡ row → Behind (is_set S.live.words) S.keys row at) → Ran P n len S₀ work₀ row first S work
     ran f = record {
@@ -171,7 +174,7 @@ module _ (P : PairTables) (n len : ℕ) (S₀ : Joins) (work₀ : List ℕ) (row
 
     module _ (here : get_or S.keys at 0 ≡ row) where
       pub running-next : (next : ℕ) → NextLive (is_set S.live.words) at len next → next < len
-      running-next next N = here-next P n len S.live.words work S.keys T R.state.keyed row at below R.placed here next N
+      running-next next N = here-next P n len S.live.words work S.keys R.state.tables R.state.keyed row at below R.placed here next N
 
       module _ (last : ℕ) (L : LastLive (is_set S.live.words) at last) (b : Bool) (F : Later S.keys last at row b) where
         -- the live place before it goes first
@@ -185,7 +188,7 @@ module _ (P : PairTables) (n len : ℕ) (S₀ : Joins) (work₀ : List ℕ) (row
           module _ (S' : Joins) (work' : List ℕ) (J : Turned P n len S work row last at next S' work') where
             during-after : WhenBuilt P n (λ D. (entry : ℕ) → entry < S₀.count → During (is_set S₀.live.words) S₀ row entry first → During (is_set S'.live.words) S' row entry after)
             during-after prefixes B entry l Q =
-                during' P n len T S work row last at next after R.state around S' work' J prefixes B entry
+                during' P n len S work row last at next after R.state around S' work' J prefixes B entry
                 (omega (arith, R.least)) (R.during prefixes B entry l Q)
 
             pub running_more : after < len → Running P n len S₀ work₀ row first S' work' after
@@ -205,7 +208,7 @@ module _ (P : PairTables) (n len : ℕ) (S₀ : Joins) (work₀ : List ℕ) (row
               work_length = J.work_length ∙ R.work_length;
               least = omega (arith, R.least, J.longer.least);
               during = λ prefixes B entry l Q. closed (is_set S'.live.words) S' row entry after
-                  (λ p z. absurd (let w = here-below P n len S'.live.words work' S'.keys T J.state.keyed row after below p z in omega (arith, h)))
+                  (λ p z. absurd (let w = here-below P n len S'.live.words work' S'.keys J.state.tables J.state.keyed row after below p z in omega (arith, h)))
                   (during-after prefixes B entry l Q);
               same = λ prefixes B. J.same prefixes B ∙ R.same prefixes B;
             }

@@ -84,8 +84,9 @@ pub record Keyed (P : PairTables) (n len : ℕ) (words work keys : List ℕ) : T
       → KeyIs (JoinKey P n) (is_set words i) (get_or work i 0) (live (is_set words) work (len - suc i) (suc i))
       (get_or keys i 0)
 
--- and the queues, with room for two entries at each join
+-- and the queues, with room for two entries at each join, over tables whose parts may be read
 pub record State (P : PairTables) (n len : ℕ) (S : Joins) (work : List ℕ) : Type 0 where
+  pub tables : JoinsReady P n
   pub keyed : Keyed P n len S.live.words work S.keys
   pub entries : S.count + 2 * length (live (is_set S.live.words) work len 0) ≤ 3 * len + 1
 

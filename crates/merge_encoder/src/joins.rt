@@ -11,7 +11,6 @@ use tables::RowTables;
 // next older entry times 4,096, and a place; `heads` has the newest entry of each queue, and entry 0 ends a queue. A
 // queue may have places that are no longer right.
 // Kept: no heap: the entries of all queues stand in one array of fixed size, and name each other by number.
-// Kept: no plainer: `pair_check` answers a row or NONE, and a key is that answer.
 #[derive(Drop)]
 pub(crate) struct Joins {
     pub live: BitField,
@@ -26,7 +25,6 @@ pub(crate) struct Joins {
 impl Joins {
     ghost use Rattle.std.specs.Prelude.{◌≤◌, ◌<◌, unwrap_or, IfSome};
     ghost use Rattle.bitfield.specs.Bits.{is_set};
-    ghost use Rattle.merge_encoder.specs.Encoding.{JoinsReady};
     ghost use Rattle.merge_encoder.specs.Live.{NextIs, LastIs};
     ghost use Rattle.merge_encoder.specs.Pushing.{PushReady, Pushed};
     ghost use Rattle.merge_encoder.specs.Steps.{RenewReady, Renewed, FillReady, FirstKeys, Later, State, Waiting, Around};
@@ -55,6 +53,7 @@ impl Joins {
         ensures { Pushed self.old place row self.new }
     {
         self.keys[place] = row;
+        // Kept: no plainer: `pair_check` answers a row or NONE, and a key is that answer.
         if row == NONE {
             return;
         }
@@ -115,7 +114,6 @@ impl Joins {
         next: usize,
         after: Option<usize>,
     )
-        requires joins_ready { JoinsReady (pair_given tables.now) tables.now.rows.n }
         requires state { let t = tables.now in let len = length codes.old in
             State (pair_given t) t.rows.n len self.old codes.old
             × Around (is_set self.old.live.words) self.old.keys t.rows.n len row (unwrap_or last at) at next
@@ -136,8 +134,7 @@ impl Joins {
 
     // The joins to a row from a place on, each at the code after the one joined before, as far as there are any.
     fn join_run(&mut self, tables: &RowTables<'_>, codes: &mut [u32], row: u32, first: usize)
-        requires joins_ready { JoinsReady (pair_given tables.now) tables.now.rows.n }
-        requires state { let t = tables.now in
+        requires { let t = tables.now in
             State (pair_given t) t.rows.n (length codes.old) self.old codes.old
             × ((row < t.rows.n) × (first < 4096)) }
         ensures { let t = tables.now in
@@ -163,8 +160,7 @@ impl Joins {
 
     // All joins to a row, from the places in its queue on.
     fn join_queue(&mut self, tables: &RowTables<'_>, codes: &mut [u32], row: u32)
-        requires joins_ready { JoinsReady (pair_given tables.now) tables.now.rows.n }
-        requires state { let t = tables.now in
+        requires { let t = tables.now in
             State (pair_given t) t.rows.n (length codes.old) self.old codes.old × (row < t.rows.n) }
         ensures { let t = tables.now in
             RowJoined (pair_given t) t.rows.n (length codes.old) self.old codes.old row self.new codes.new }
@@ -179,8 +175,7 @@ impl Joins {
 
     // The joins to each row, in the order of the rows, of the codes at the live places.
     pub fn merge(&mut self, tables: &RowTables<'_>, codes: &mut [u32])
-        requires joins_ready { JoinsReady (pair_given tables.now) tables.now.rows.n }
-        requires state { let t = tables.now in
+        requires { let t = tables.now in
             State (pair_given t) t.rows.n (length codes.old) self.old codes.old × Waiting self.old 0 }
         ensures { let t = tables.now in
             Merged (pair_given t) t.rows.n (length codes.old) self.old codes.old self.new codes.new }

@@ -6,7 +6,7 @@
 
 ghost use Rattle.std.specs.Prelude.{◌≡◌, ◌<◌, length};
 ghost use Rattle.merge_encoder.specs.Encoding.{RowsReady, EncodeReady, Encoded};
-ghost use Rattle.merge_encoder.specs.Steps.{ByteCode, KnownBytes, KnownCode, ByteCodes};
+ghost use Rattle.merge_encoder.specs.Steps.{KnownBytes, KnownCode, ByteCodes};
 ghost use Rattle.tables.specs.Tables.{pair_given};
 
 mod joins;
@@ -16,17 +16,9 @@ use joins::Joins;
 use placed_rows::NONE;
 use tables::RowTables;
 
-// The row of a byte, or row 0 where the search area finds none.
-fn byte_code(tables: &RowTables<'_>, byte: u8) -> u32
-    requires { let t = tables.now in RowsReady t.rows.file.now t.rows.places.now t.area.now t.rows.n }
-    ensures { ByteCode (pair_given tables.now) tables.now.rows.n byte result }
-{
-    let code = search_area::find(&tables.rows, tables.area, &[byte]);
-    if code == NONE { 0 } else { code }
-}
-
-// The same row, from the rows of the bytes that were met before, or found and kept there.
-fn known_code(tables: &RowTables<'_>, byte: u8, known: &mut [Option<u32>; 256]) -> u32
+// The row of a byte, or row 0 where the search area finds none: from the rows of the bytes that were met before, or found
+// and kept there.
+fn byte_code(tables: &RowTables<'_>, byte: u8, known: &mut [Option<u32>; 256]) -> u32
     requires rows_ready { let t = tables.now in RowsReady t.rows.file.now t.rows.places.now t.area.now t.rows.n }
     requires known { KnownBytes (pair_given tables.now) tables.now.rows.n known.old }
     ensures { KnownCode (pair_given tables.now) tables.now.rows.n byte known.new result }
@@ -34,7 +26,9 @@ fn known_code(tables: &RowTables<'_>, byte: u8, known: &mut [Option<u32>; 256]) 
     if let Some(code) = known[byte as usize] {
         return code;
     }
-    let code = byte_code(tables, byte);
+    let found = search_area::find(&tables.rows, tables.area, &[byte]);
+    // Kept: no plainer: the search area answers a row or NONE.
+    let code = if found == NONE { 0 } else { found };
     known[byte as usize] = Some(code);
     code
 }
@@ -47,7 +41,7 @@ fn fill_byte_codes(tables: &RowTables<'_>, text: &[u8], codes: &mut [u32])
 {
     let mut known = [None; 256];
     for (at, byte) in text.iter().enumerate() {
-        codes[at] = known_code(tables, *byte, &mut known);
+        codes[at] = byte_code(tables, *byte, &mut known);
     }
 }
 

@@ -5,7 +5,7 @@ use Rattle.merge_encoder.proofs.joins.Joins.join_queue.Goals as goal
 pub loop-entry-preserved : goal.loop-entry-preserved
 loop-entry-preserved c =
     let ran = rw c.loop-entry.auto.codes at c.join_run.ensures in
-    emptying_more _ _ _ _ _ _ c.requires.joins_ready c.requires.state.1 _ _ _ c.loop-entry.invariant c.loop-entry-test.true _ _ ran
+    emptying_more _ _ _ _ _ _ c.requires.1 _ _ _ c.loop-entry.invariant c.loop-entry-test.true _ _ ran
 
 pub returns : goal.returns
-returns c = emptying_end _ _ _ _ _ _ c.requires.joins_ready c.requires.state.1 _ _ _ c.loop-entry.invariant c.loop-entry-test.false
+returns c = emptying_end _ _ _ _ _ _ c.requires.1 _ _ _ c.loop-entry.invariant c.loop-entry-test.false

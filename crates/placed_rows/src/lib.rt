@@ -3,7 +3,7 @@
 #![tactic(auto)]
 
 ghost use Rattle.std.specs.Prelude.{◌≡◌};
-ghost use Rattle.placed_rows.specs.Texts.{begins, facing, Small};
+ghost use Rattle.placed_rows.specs.Texts.{begins, facing};
 
 mod rows;
 
@@ -16,20 +16,6 @@ pub use theory::NONE;
 pub struct Match {
     pub row: u32,
     pub len: usize,
-}
-
-// A row or a place as an index.
-pub fn wide(x: u32) -> usize
-    ensures { Small x 4294967296 result }
-{
-    x as usize
-}
-
-// A length byte as a length.
-pub fn wide_byte(b: u8) -> usize
-    ensures { Small b 256 result }
-{
-    b as usize
 }
 
 // Does p begin t?

@@ -1,8 +1,6 @@
 -- `in_form` meets its contract: each of its tests decides one fact of tables in form. Assumes nothing.
 use mathlib.Core.Path.{◌≡◌, refl, sym, ap, ◌∙◌}
-use Prim.Native.Nat.{ℕ}
 use native.Mathlib.Omega.{arith}
-use lib.ListN.{length-replicate}
 use Rattle.std.specs.Prelude.{Some, Ok}
 use Rattle.std.specs.Result.{result_ok}
 use Rattle.phrase_file.specs.Checks.{check_of}
@@ -40,11 +38,6 @@ pub returns-then-tables-lt-AREA : goal.returns-then-tables-lt-AREA
 returns-then-tables-lt-AREA c =
     let passed : check_of c.args.tables.now.file.now ≡ Ok c.in_ok-n.n = passed_of _ _ (c.in_ok-n.ensures.value ∙ ap result_ok c.check_file.ensures) in
     facts_fail _ _ passed (λ f. omega (arith, f.area_room, c.if-tables-lt-AREA.true))
-
-pub places_match-requires : goal.places_match-requires
-places_match-requires c =
-    let passed : check_of c.args.tables.now.file.now ≡ Ok c.in_ok-n.n = passed_of _ _ (c.in_ok-n.ensures.value ∙ ap result_ok c.check_file.ensures) in
-    record { passed = passed; room = c.if-tables-n.false; width = length-replicate {A = ℕ} 4096 0 }
 
 pub returns-then-not-places_match : goal.returns-then-not-places_match
 returns-then-not-places_match c =

@@ -24,15 +24,6 @@ returns-then-place-at c =
 pub bounds-sizes-row : goal.bounds-sizes-row
 bounds-sizes-row c = let a = accepted _ _ c.requires.passed in omega (arith, a.most)
 
-pub overflow_add-at-in-loop-row : goal.overflow_add-at-in-loop-row
-overflow_add-at-in-loop-row c =
-    let below : c.loop-row.row < c.args.n = omega arith in
-    let turn : Matching c.args.tables.now.file.now c.args.tables.now.places.now c.args.n
-    (set c.loop-row.sizes c.loop-row.row (get_or c.args.tables.now.file.now (get_or c.args.tables.now.places.now c.loop-row.row 0 + 2) 0))
-    (c.loop-row.at + 3 + get_or c.args.tables.now.file.now (get_or c.args.tables.now.places.now c.loop-row.row 0 + 2) 0) (c.loop-row.row + 1) = match_more _ _ _ _ c.requires _ _ _ c.loop-row.invariant (below)
-    _ _ refl c.if-place-at.false refl in
-    omega (arith, (turn).inside)
-
 pub loop-row-preserved : goal.loop-row-preserved
 loop-row-preserved c =
     let below : c.loop-row.row < c.args.n = omega arith in

@@ -2,7 +2,7 @@
 use mathlib.Core.Path.{refl, sym, ◌∙◌}
 use native.Mathlib.Omega.{arith}
 use Rattle.tables.specs.InForm.{all_below}
-use Rattle.tables.proofs.Sweeps.{all_more, all_done, all-fails}
+use Rattle.tables.proofs.Sweeps.{all_more, all-fails}
 use Rattle.tables.proofs.Entries.{prefix_out, parts_out, row_in}
 use Rattle.tables.proofs.rows_fit.Goals as goal
 
@@ -20,6 +20,3 @@ pub loop-i-preserved : goal.loop-i-preserved
 loop-i-preserved c =
     all_more _ _ c.loop-i.invariant
     (row_in _ _ _ _ _ _ (sym c.if-not-prefix_in_form.false ∙ c.prefix_in_form.ensures) (sym c.if-not-parts_in_form.false ∙ c.parts_in_form.ensures))
-
-pub returns : goal.returns
-returns c = all_done _ _ _ (omega arith) (omega arith) c.loop-i.invariant

@@ -1,15 +1,8 @@
 -- `clashes::has` meets its contract. The loop's invariant: the list from row `at`, over the rows below `below`, gives the bucket's answer. Assumes nothing.
-use mathlib.Core.Path.{sym, ap, ◌∙◌}
-use Prim.Native.Nat.{ℕ}
+use mathlib.Core.Path.{sym, ◌∙◌}
 use native.Mathlib.Omega.{arith}
-use lib.ListN.{get_or}
-use Rattle.clashes.specs.Buckets.{listed}
 use Rattle.clashes.proofs.Chains.{listed_out, listed_here, listed-on}
 use Rattle.clashes.proofs.has.Goals as goal
-
-pub loop-at-init : goal.loop-at-init
-loop-at-init g c =
-    (omega arith, ap (listed _ _ _) (ap (λ (b : ℕ). get_or c.args.scratch.now b 0) c.bucket.ensures.is))
 
 pub returns-then-is_sought : goal.returns-then-is_sought
 returns-then-is_sought g c =

@@ -362,10 +362,10 @@ def show(file, name, out):
 
 
 def usage():
-    """The page of usage is taken from its source line by line: it has no numbers to get wrong."""
+    """The page of usage is taken from its source: it has no numbers to get wrong."""
     source = open(os.path.join(os.path.dirname(__file__), "../crates/phrase_tool/src/usage.rt"), encoding="utf-8").read()
-    for text in re.findall(r'say\(\s*rt,\s*b"(.*?)",?\s*\)', source, re.S):
-        say(re.sub(r"\\\n\s*", "", text).encode().decode("unicode_escape"))
+    text = re.search(r'PAGE: &str = "(.*?)";', source, re.S)[1]
+    say(re.sub(r"\\\n\s*", "", text).encode().decode("unicode_escape"))
 
 
 COMMANDS = {

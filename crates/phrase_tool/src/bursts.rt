@@ -1,25 +1,32 @@
 // Codes as bursts, in words.
-use std::io;
+use std::fmt;
 use text_forms::{bursts, left};
-use tool_io::say_many;
-use words::{say, say_number};
+use tool_io::Many;
 
-// `8 codes, 1 burst, 32 left in the last`.
-pub(crate) fn say_bursts(rt: &impl Print, count: usize) -> io::Result<()> {
-    say_many(rt, count, b"code")?;
-    say(rt, b", ")?;
-    say_many(rt, bursts(count), b"burst")?;
-    say(rt, b", ")?;
-    say_number(rt, left(count) as u64)?;
-    say(rt, b" left in the last")
+// So many codes: `8 codes, 1 burst, 32 left in the last`.
+#[derive(Clone, Copy)]
+pub(crate) struct InBursts(pub usize);
+
+impl fmt::Display for InBursts {
+    fn fmt<W: fmt::Write>(&self, f: &mut fmt::Formatter<W>) -> fmt::Result {
+        let count = self.0;
+        let (codes, bursts) = (Many(count, "code"), Many(bursts(count), "burst"));
+        write!(f, "{codes}, {bursts}, {} left in the last", left(count))
+    }
 }
 
-// ` codes=8 bursts=1 left=32`, for a script.
-pub(crate) fn say_fields(rt: &impl Print, count: usize) -> io::Result<()> {
-    say(rt, b" codes=")?;
-    say_number(rt, count as u64)?;
-    say(rt, b" bursts=")?;
-    say_number(rt, bursts(count) as u64)?;
-    say(rt, b" left=")?;
-    say_number(rt, left(count) as u64)
+// The same for a script: `codes=8 bursts=1 left=32`.
+#[derive(Clone, Copy)]
+pub(crate) struct BurstFields(pub usize);
+
+impl fmt::Display for BurstFields {
+    fn fmt<W: fmt::Write>(&self, f: &mut fmt::Formatter<W>) -> fmt::Result {
+        let count = self.0;
+        write!(
+            f,
+            "codes={count} bursts={} left={}",
+            bursts(count),
+            left(count)
+        )
+    }
 }

@@ -1,197 +1,97 @@
 // `phrases why FILE ROW ROW`
-use causes::{Answer, Cause, PairAnswer};
-use std::io;
-use tool_io::{
-    say_argument, say_cause, say_cause_result, say_codes, say_error_result, say_many, say_quoted,
-    say_row,
-};
-use words::{Parsed, front, front_numbers, number, say, say_number, wide};
-
-// An entry of a table, 0 beyond it.
-fn entry(table: &[u32], row: u32) -> usize {
-    let i = row as usize;
-    if i < table.len() {
-        return wide(table[i]) as usize;
-    }
-    0
-}
+use crate::sending::{sent, told};
+use byte_pair_encoding::is_valid_token_pair;
+use decoder::decode_tokens;
+use file_commands::load;
+use phrase_file::num_rows;
+use std::fmt;
+use std::rt::Files;
+use tables::Tables;
+use tool_io::{Codes, Many, Quoted, Row, Stop, argument_error, refused};
+use words::number;
 
 // A row and its parts.
-fn say_parts(
-    rt: &impl Print,
-    file: &[u8],
-    lefts: &[u32],
-    rights: &[u32],
-    row: u32,
-) -> io::Result<()> {
-    let left = entry(lefts, row);
-    say_row(rt, file, row as usize)?;
-    if left == row as usize {
-        return say(rt, b" is a single byte\n");
-    }
-    say(rt, b" is ")?;
-    say_row(rt, file, left)?;
-    say(rt, b" and ")?;
-    say_row(rt, file, entry(rights, row))?;
-    say(rt, b"\n")
+#[derive(Clone, Copy)]
+struct Parts<'a> {
+    tables: Tables<'a>,
+    row: usize,
 }
 
-// The codes at the front of a buffer, after the bytes that they spell.
-fn say_sent(rt: &impl Print, joined: &[u8], codes: &[u32; 128], count: usize) -> io::Result<()> {
-    say_quoted(rt, joined)?;
-    say(rt, b" is sent as ")?;
-    say_codes(rt, front_numbers(codes, count))?;
-    say(rt, b"\n")
-}
-
-// How the bytes at the front of a buffer are sent.
-fn send_joined(
-    rt: &impl Print,
-    file: &[u8],
-    places: &[u32],
-    lefts: &[u32],
-    rights: &[u32],
-    prefixes: &[u32],
-    area: &[u32],
-    buffer: &[u8; 128],
-    size: usize,
-) -> io::Result<()> {
-    let joined = front(buffer, size);
-    let mut codes = [0u32; 128];
-    let mut work = [0u32; 128];
-    match byte_pair_encoding::encode_via_backtracking(
-        file, places, lefts, rights, prefixes, area, joined, &mut codes, &mut work,
-    ) {
-        Answer::Number(count) => say_sent(rt, joined, &codes, count),
-        Answer::Refused(_) => Ok(()),
+impl fmt::Display for Parts<'_> {
+    fn fmt<W: fmt::Write>(&self, f: &mut fmt::Formatter<W>) -> fmt::Result {
+        let tables = self.tables;
+        let file = tables.file;
+        let left = tables.lefts.get(self.row).copied().unwrap_or(0) as usize;
+        let right = tables.rights.get(self.row).copied().unwrap_or(0) as usize;
+        let row = Row {
+            file,
+            row: self.row,
+        };
+        if left == self.row {
+            return write!(f, "{row} is a single byte");
+        }
+        let (left, right) = (Row { file, row: left }, Row { file, row: right });
+        write!(f, "{row} is {left} and {right}")
     }
 }
 
 // How the bytes of two rows are sent.
 fn say_instead(
-    rt: &impl Print,
-    file: &[u8],
-    places: &[u32],
-    lefts: &[u32],
-    rights: &[u32],
-    prefixes: &[u32],
-    area: &[u32],
+    rt: &(impl Print + AllocGlobal),
+    tables: &Tables<'_>,
     pair: &[u32],
-) -> io::Result<()> {
-    let mut bytes = [0u8; 128];
-    match decoder::decode_tokens(
-        file, places, lefts, rights, prefixes, area, pair, &mut bytes,
-    ) {
-        Answer::Number(size) => send_joined(
-            rt, file, places, lefts, rights, prefixes, area, &bytes, size,
-        ),
-        Answer::Refused(_) => Ok(()),
-    }
+) -> Result<(), Stop> {
+    let mut bytes = vec![in rt.alloc(); 0; 128]?;
+    let size = told(rt, decode_tokens(tables, pair, &mut bytes), tables.file)?;
+    bytes.truncate(size);
+    let codes = sent(rt, tables, &bytes)?;
+    let (joined, codes) = (Quoted(&bytes), Codes(&codes));
+    println!(rt; "{joined} is sent as {codes}")?;
+    Ok(())
 }
 
-// A row number that is no row.
-fn say_no_row(rt: &impl Print, cause: Cause, file: &[u8]) -> io::Result<()> {
-    say_cause(rt, cause)?;
-    say(rt, b"there is no such row: the file has ")?;
-    say_many(rt, phrase_file::num_rows(file), b"row")?;
-    say(rt, b", numbered from 0")?;
-    say_cause_result(rt, cause)
-}
-
-// The line for a script.
-fn say_pair(rt: &impl Print, left: u32, right: u32, res: &[u8]) -> io::Result<()> {
-    say(rt, b"result: ")?;
-    say(rt, res)?;
-    say(rt, b" left=")?;
-    say_number(rt, left as u64)?;
-    say(rt, b" right=")?;
-    say_number(rt, right as u64)?;
-    say(rt, b"\n")
-}
-
-// The command, on two row numbers.
-fn why_pair(
-    rt: &impl Print,
-    file: &[u8],
-    places: &[u32],
-    lefts: &[u32],
-    rights: &[u32],
-    prefixes: &[u32],
-    area: &[u32],
-    left: u32,
-    right: u32,
-) -> io::Result<()> {
-    match byte_pair_encoding::is_valid_token_pair(
-        file, places, lefts, rights, prefixes, area, left, right,
-    ) {
-        PairAnswer::Passes(passes) => {
-            say_parts(rt, file, lefts, rights, left)?;
-            say_parts(rt, file, lefts, rights, right)?;
-            if passes {
-                say(rt, b"they may stand beside each other\n")?;
-                return say_pair(rt, left, right, b"passes");
-            }
-            say(rt, b"they may not stand beside each other: ")?;
-            say_instead(
-                rt,
-                file,
-                places,
-                lefts,
-                rights,
-                prefixes,
-                area,
-                &[left, right],
-            )?;
-            say_pair(rt, left, right, b"fails")
-        }
-        PairAnswer::Refused(cause) => say_no_row(rt, cause, file),
-    }
-}
-
-// What a word writes as a row number; one of more than 32 bits is none, which is no row.
-#[derive(Drop)]
-enum Row {
-    Number(u32),
-    Nothing,
-}
-
-// The row number of an argument, or it is said that it is none.
-fn row_number(rt: &impl Print, argument: &[u8]) -> io::Result<Row> {
+// The row number of an argument; one of more than 32 bits is none, which is no row.
+fn row_number(rt: &impl Print, argument: &[u8]) -> Result<u32, Stop> {
     match number(argument) {
-        Parsed::Number(value) => {
-            if value > 4294967295 {
-                return Ok(Row::Number(4294967295));
-            }
-            Ok(Row::Number(value as u32))
-        }
-        Parsed::Nothing => {
-            say_argument(rt, b"ROW", argument)?;
-            say(rt, b"it is no number")?;
-            say_error_result(rt, b"ROW")?;
-            Ok(Row::Nothing)
-        }
+        Some(value) => Ok(u32::try_from(value).unwrap_or(u32::MAX)),
+        None => Err(argument_error(rt, "ROW", argument, "it is no number")),
     }
 }
 
 // The command.
-pub(crate) fn why(
-    rt: &impl Print,
+pub(crate) fn why<R: Files + Print + AllocGlobal>(
+    rt: &R,
     file: &[u8],
-    places: &[u32],
-    lefts: &[u32],
-    rights: &[u32],
-    prefixes: &[u32],
-    area: &[u32],
     left: &[u8],
     right: &[u8],
-) -> io::Result<()> {
-    let Row::Number(first) = row_number(rt, left)? else {
-        return Ok(());
+) -> Result<(), Stop> {
+    let dictionary = load(rt, file)?;
+    let left = row_number(rt, left)?;
+    let right = row_number(rt, right)?;
+    let tables = dictionary.tables();
+    let passes = match is_valid_token_pair(&tables, left, right) {
+        Ok(passes) => passes,
+        Err(cause) => {
+            let rows = Many(num_rows(tables.file), "row");
+            let reason = format_args!("there is no such row: the file has {rows}, numbered from 0");
+            return Err(refused(rt, cause, reason));
+        }
     };
-    let Row::Number(second) = row_number(rt, right)? else {
-        return Ok(());
+    let first = Parts {
+        tables,
+        row: left as usize,
     };
-    why_pair(
-        rt, file, places, lefts, rights, prefixes, area, first, second,
-    )
+    let second = Parts {
+        tables,
+        row: right as usize,
+    };
+    println!(rt; "{first}\n{second}")?;
+    if passes {
+        println!(rt; "they may stand beside each other\nresult: passes left={left} right={right}")?;
+        return Ok(());
+    }
+    print!(rt; "they may not stand beside each other: ")?;
+    say_instead(rt, &tables, &[left, right])?;
+    println!(rt; "result: fails left={left} right={right}")?;
+    Ok(())
 }

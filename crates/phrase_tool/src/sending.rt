@@ -1,105 +1,111 @@
 // `phrases encode`, `shortest` and `count`: the codes of a text, and their number.
-use crate::bursts::{say_bursts, say_fields};
-use causes::Answer;
+use crate::bursts::{BurstFields, InBursts};
+use crate::texts::read_text;
+use byte_pair_encoding::{encode_minimal, encode_via_backtracking};
+use causes::Cause;
+use file_commands::load;
 use std::io;
-use tool_io::{say_cause_result, say_codes, say_refusal};
-use words::{front_numbers, say};
+use std::io::Read;
+use std::rt::Files;
+use tables::Tables;
+use tool_io::{Codes, Reason, Stop, refused};
 
-// The answer of a call over a text: its number, or none and the refusal is said.
-#[derive(Drop)]
-pub enum Sent {
-    Codes(usize),
-    Nothing,
-}
-
-// Takes an answer apart.
-pub(crate) fn told(rt: &impl Print, answer: Answer, file: &[u8]) -> io::Result<Sent> {
+// What a call over a text answers, or its refusal is said.
+pub(crate) fn told<T: Drop>(
+    rt: &impl Print,
+    answer: Result<T, Cause>,
+    file: &[u8],
+) -> Result<T, Stop> {
     match answer {
-        Answer::Number(count) => Ok(Sent::Codes(count)),
-        Answer::Refused(cause) => {
-            say_refusal(rt, cause, file, 1)?;
-            say_cause_result(rt, cause)?;
-            Ok(Sent::Nothing)
-        }
+        Ok(value) => Ok(value),
+        Err(cause) => Err(refused(
+            rt,
+            cause,
+            Reason {
+                cause,
+                file,
+                factor: 1,
+            },
+        )),
     }
 }
 
+// The codes that an encoder gives for a text.
+fn encoded<E: Fn(&Tables<'_>, &[u8], &mut [u32], &mut [u32]) -> Result<usize, Cause>>(
+    rt: &(impl Print + AllocGlobal),
+    encoder: E,
+    tables: &Tables<'_>,
+    text: &[u8],
+) -> Result<Vec<u32>, Stop>
+    requires { E.IsAlwaysCallable encoder }
+{
+    let mut codes = vec![in rt.alloc(); 0; 4096]?;
+    let mut work = vec![in rt.alloc(); 0; 4096]?;
+    let count = told(
+        rt,
+        encoder(tables, text, &mut codes, &mut work),
+        tables.file,
+    )?;
+    codes.truncate(count);
+    Ok(codes)
+}
+
+// The codes of a text as they are sent.
+pub(crate) fn sent(
+    rt: &(impl Print + AllocGlobal),
+    tables: &Tables<'_>,
+    text: &[u8],
+) -> Result<Vec<u32>, Stop> {
+    encoded(rt, encode_via_backtracking, tables, text)
+}
+
 // The codes on a line, and the line for a script.
-fn say_sent(
-    rt: &impl Print,
-    answer: Answer,
-    name: &[u8],
-    file: &[u8],
-    codes: &[u32],
-) -> io::Result<()> {
-    let Sent::Codes(count) = told(rt, answer, file)? else {
-        return Ok(());
-    };
-    say_codes(rt, front_numbers(codes, count))?;
-    say(rt, b"\nresult: ")?;
-    say(rt, name)?;
-    say_fields(rt, count)?;
-    say(rt, b"\n")
+fn say_codes(rt: &impl Print, name: &str, codes: &[u32]) -> io::Result<()> {
+    let (fields, codes) = (BurstFields(codes.len()), Codes(codes));
+    println!(rt; "{codes}\nresult: {name} {fields}")
 }
 
 // `encode`: the codes as they are sent.
-pub(crate) fn encode(
-    rt: &impl Print,
+pub(crate) fn encode<R: Files + Print + AllocGlobal>(
+    rt: &R,
     file: &[u8],
-    places: &[u32],
-    lefts: &[u32],
-    rights: &[u32],
-    prefixes: &[u32],
-    area: &[u32],
     text: &[u8],
-) -> io::Result<()> {
-    let mut codes = [0u32; 4096];
-    let mut work = [0u32; 4096];
-    let answer = byte_pair_encoding::encode_via_backtracking(
-        file, places, lefts, rights, prefixes, area, text, &mut codes, &mut work,
-    );
-    say_sent(rt, answer, b"encoded", file, &codes)
+    input: &mut impl Read,
+) -> Result<(), Stop> {
+    let dictionary = load(rt, file)?;
+    let text = read_text(rt, text, input)?;
+    let codes = sent(rt, &dictionary.tables(), &text)?;
+    say_codes(rt, "encoded", &codes)?;
+    Ok(())
 }
 
 // `shortest`: the fewest codes.
-pub(crate) fn shortest(
-    rt: &impl Print,
+pub(crate) fn shortest<R: Files + Print + AllocGlobal>(
+    rt: &R,
     file: &[u8],
-    places: &[u32],
-    lefts: &[u32],
-    rights: &[u32],
-    prefixes: &[u32],
-    area: &[u32],
     text: &[u8],
-) -> io::Result<()> {
-    let mut codes = [0u32; 4096];
-    let mut work = [0u32; 4096];
-    let answer = byte_pair_encoding::encode_minimal(
-        file, places, lefts, rights, prefixes, area, text, &mut codes, &mut work,
-    );
-    say_sent(rt, answer, b"shortest", file, &codes)
+    input: &mut impl Read,
+) -> Result<(), Stop> {
+    let dictionary = load(rt, file)?;
+    let text = read_text(rt, text, input)?;
+    let codes = encoded(rt, encode_minimal, &dictionary.tables(), &text)?;
+    say_codes(rt, "shortest", &codes)?;
+    Ok(())
 }
 
 // `count`: the number of codes and of bursts.
-pub(crate) fn count(
-    rt: &impl Print,
+pub(crate) fn count<R: Files + Print + AllocGlobal>(
+    rt: &R,
     file: &[u8],
-    places: &[u32],
-    lefts: &[u32],
-    rights: &[u32],
-    prefixes: &[u32],
-    area: &[u32],
     text: &[u8],
-) -> io::Result<()> {
-    let mut work = [0u32; 4096];
-    let answer = byte_pair_encoding::count(
-        file, places, lefts, rights, prefixes, area, text, &mut work,
-    );
-    let Sent::Codes(codes) = told(rt, answer, file)? else {
-        return Ok(());
-    };
-    say_bursts(rt, codes)?;
-    say(rt, b"\nresult: counted")?;
-    say_fields(rt, codes)?;
-    say(rt, b"\n")
+    input: &mut impl Read,
+) -> Result<(), Stop> {
+    let dictionary = load(rt, file)?;
+    let text = read_text(rt, text, input)?;
+    let mut work = vec![in rt.alloc(); 0; 4096]?;
+    let answer = byte_pair_encoding::count(&dictionary.tables(), &text, &mut work);
+    let count = told(rt, answer, &dictionary.file)?;
+    let (codes, fields) = (InBursts(count), BurstFields(count));
+    println!(rt; "{codes}\nresult: counted {fields}")?;
+    Ok(())
 }

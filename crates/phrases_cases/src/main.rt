@@ -2,95 +2,80 @@
 // program. README.md says what a line may hold.
 #![tactic(auto)]
 
+ghost use Rattle.std.specs.Prelude.{◌<◌, length};
+
+use std::alloc::{AllocError, Global};
 use std::io::{Read, Write};
 use std::rt::Files;
 use std::{fs, io};
-use tool_io::read_full;
-use words::{Parsed, after, back, front, is, number, put, put_all, say, until};
+use text_forms::unescape;
+use words::{back, count_before, front, number};
 
-// What follows the first space of a line.
-fn rest(line: &[u8]) -> &[u8] {
-    if line.len() == 0 {
-        return line;
-    }
-    back(line, after(line, 0, b' '))
+// What stands before the first byte of this value, and what follows it.
+fn split_at_byte(text: &[u8], byte: u8) -> (&[u8], &[u8])
+    ensures { 0 < length text.now → length result.1.now < length text.now }
+{
+    let size = count_before(text, byte);
+    (front(text, size), back(text, size.saturating_add(1)))
 }
 
-// The first word of a line.
-fn first(line: &[u8]) -> &[u8] {
-    until(line, 0, b' ')
-}
-
-// Puts the bytes of an escaped text of at most 64 bytes.
-fn put_unescaped(text: &[u8], out: &mut [u8], at: usize) -> usize {
-    let mut bytes = [0u8; 64];
-    match text_forms::unescape(text, &mut bytes) {
-        text_forms::Phrase::Bytes(size) => put_front(&bytes, size, out, at),
-        _ => at,
+// Adds the bytes of an escaped text of at most 64 bytes.
+fn push_unescaped(bytes: &mut Vec<u8>, text: &[u8]) -> Result<(), AllocError> {
+    let mut phrase = [0u8; 64];
+    match unescape(text, &mut phrase) {
+        Ok(size) => bytes.extend_from_slice(front(&phrase, size)),
+        Err(_) => Ok(()),
     }
 }
 
-// Puts the first bytes of a buffer.
-fn put_front(bytes: &[u8; 64], size: usize, out: &mut [u8], at: usize) -> usize {
-    put_all(out, at, front(bytes, size))
-}
-
-// Puts a word of a command line as the library takes it, ended by a byte 0; '' is an empty one.
-fn put_word(word: &[u8], out: &mut [u8], at: usize) -> usize {
-    if is(word, b"''") {
-        return put(out, at, 0);
+// A command line as the library takes it: each word is ended by a byte 0, and '' is an empty one. It has at most 8,192
+// bytes.
+fn command_line(alloc: Global, line: &[u8]) -> Result<Vec<u8>, AllocError> {
+    let mut bytes = Vec::new(alloc);
+    let mut left = line;
+    while !left.is_empty() {
+        let (word, rest) = split_at_byte(left, b' ');
+        match word {
+            b"''" => {}
+            _ => push_unescaped(&mut bytes, word)?,
+        }
+        bytes.push(0)?;
+        left = rest;
     }
-    let end = put_unescaped(word, out, at);
-    put(out, end, 0)
-}
-
-// Puts the words of a line.
-fn put_words(line: &[u8], out: &mut [u8]) -> usize {
-    let mut end = 0;
-    let mut at = 0;
-    while at < line.len() {
-        end = put_word(until(line, at, b' '), out, end);
-        at = after(line, at, b' ');
-    }
-    end
-}
-
-// Puts an escaped text so many times.
-fn put_times(text: &[u8], times: u64, out: &mut [u8]) -> usize {
-    let mut end = 0;
-    let mut i = 0;
-    while i < times {
-        end = put_unescaped(text, out, end);
-        i += 1;
-    }
-    end
+    bytes.truncate(8192);
+    Ok(bytes)
 }
 
 // A name as the system's calls take it: empty where it is not UTF-8.
 fn path_of(name: &[u8]) -> &str {
-    match std::str::from_utf8(name) {
-        Ok(path) => path,
-        Err(_) => "",
-    }
+    std::str::from_utf8(name).unwrap_or("")
 }
 
-// `write NAME TIMES TEXT`
-fn write(rt: &impl Files, line: &[u8]) -> io::Result<()> {
-    let Parsed::Number(times) = number(first(rest(line))) else {
+// `write NAME TIMES TEXT`: at most 131,072 bytes.
+fn write(rt: &(impl Files + AllocGlobal), arguments: &[u8]) -> io::Result<()> {
+    let (name, rest) = split_at_byte(arguments, b' ');
+    let (times, text) = split_at_byte(rest, b' ');
+    let Some(times) = number(times) else {
         return Ok(());
     };
-    let mut bytes = [0u8; 131072];
-    let size = put_times(rest(rest(line)), times, &mut bytes);
-    let mut file = fs::create(rt, path_of(first(line)))?;
-    file.write_all(front(&bytes, size))
+    let mut bytes = Vec::new(rt.alloc());
+    for _ in 0..times {
+        push_unescaped(&mut bytes, text)?;
+        if 131072 < bytes.len() {
+            break;
+        }
+    }
+    bytes.truncate(131072);
+    fs::create(rt, path_of(name))?.write_all(&bytes)
 }
 
-// `print NAME`
-fn print(rt: &(impl Files + Print), name: &[u8]) -> io::Result<()> {
-    let mut bytes = [0u8; 131072];
-    let mut file = fs::open(rt, path_of(name))?;
-    let size = read_full(&mut file, &mut bytes)?;
-    say(rt, front(&bytes, size))
+// `print NAME`: at most 131,072 bytes.
+fn print(rt: &(impl Files + Print + AllocGlobal), name: &[u8]) -> io::Result<()> {
+    let mut bytes = Vec::new(rt.alloc());
+    fs::open(rt, path_of(name))?
+        .take(131072)
+        .read_to_end(&mut bytes)?;
+    rt.write_all(&bytes)
 }
 
 // The system's error for a file that is not open.
@@ -107,47 +92,45 @@ impl Read for Closed {
 }
 
 // `phrases WORD ..`, with the file `input` as standard input.
-fn run(rt: &(impl Files + Print), line: &[u8], each: bool) -> io::Result<()> {
-    let mut words = [0u8; 8192];
-    let size = put_words(line, &mut words);
+fn run<R: Files + Print + AllocGlobal>(rt: &R, words: &[u8], each: bool) -> io::Result<()> {
+    let line = command_line(rt.alloc(), words)?;
     match fs::open(rt, "input") {
-        Ok(mut input) => phrase_tool::run(rt, front(&words, size), &mut input, each),
-        Err(_) => phrase_tool::run(rt, front(&words, size), &mut Closed {}, each),
+        Ok(mut input) => phrase_tool::run(rt, &line, &mut input, each),
+        Err(_) => phrase_tool::run(rt, &line, &mut Closed {}, each),
     }
 }
 
 // Does a line, and gives whether `type` shows the count after each byte from now on.
-fn obey(rt: &(impl Files + Print), line: &[u8], each: bool) -> io::Result<bool> {
-    if is(line, b"each byte") {
-        return Ok(true);
-    }
-    if is(line, b"each line") {
-        return Ok(false);
-    }
-    if is(first(line), b"write") {
-        write(rt, rest(line))?;
-    }
-    if is(first(line), b"print") {
-        print(rt, rest(line))?;
-    }
-    if is(first(line), b"phrases") {
-        say(rt, b"> ")?;
-        say(rt, line)?;
-        say(rt, b"\n")?;
-        run(rt, rest(line), each)?;
+fn obey<R: Files + Print + AllocGlobal>(rt: &R, line: &[u8], each: bool) -> io::Result<bool> {
+    let (command, arguments) = split_at_byte(line, b' ');
+    match command {
+        b"each" => match arguments {
+            b"byte" => return Ok(true),
+            b"line" => return Ok(false),
+            _ => {}
+        },
+        b"write" => write(rt, arguments)?,
+        b"print" => print(rt, arguments)?,
+        b"phrases" => {
+            rt.write_all(b"> ")?;
+            rt.write_all(line)?;
+            rt.write_all(b"\n")?;
+            run(rt, arguments, each)?;
+        }
+        _ => {}
     }
     Ok(each)
 }
 
 fn main(rt: HostRuntime) -> io::Result<()> {
-    let mut input = [0u8; 65536];
-    let size = read_full(&mut rt.stdin(), &mut input)?;
-    let lines = front(&input, size);
+    let mut input = Vec::new(rt.alloc());
+    rt.stdin().take(65536).read_to_end(&mut input)?;
+    let mut left = input.as_slice();
     let mut each = false;
-    let mut at = 0;
-    while at < lines.len() {
-        each = obey(&rt, until(lines, at, b'\n'), each)?;
-        at = after(lines, at, b'\n');
+    while !left.is_empty() {
+        let (line, rest) = split_at_byte(left, b'\n');
+        each = obey(&rt, line, each)?;
+        left = rest;
     }
     Ok(())
 }

@@ -157,6 +157,7 @@ fn take_back(
 }
 
 // A step adds or takes back one code. Where nothing is left to try it changes nothing.
+// Kept: no plainer: a struct that holds the work buffer, lent to be written, needs a clause on it in each method.
 pub fn step(
     tables: &RowTables<'_>,
     text: &[u8],

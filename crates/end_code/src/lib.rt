@@ -72,6 +72,7 @@ impl Side {
     }
 
     // The part at its other side.
+    // Kept: no plainer: each is one match, and inner_part and other_part of theory (definitions) are two as well.
     fn other_part(self, tables: &RowTables<'_>, x: u32) -> u32
         requires { PartReady (pair_given tables.now) x }
         ensures { result ≡ other_of (pair_given tables.now) (side_of self) x }

@@ -1,2 +1,1 @@
 pub mod Packing
-pub mod Sided

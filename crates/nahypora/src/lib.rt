@@ -4,13 +4,10 @@
 // number too, of which any but 0 prepends, so that no refusal is needed for one without a meaning.
 #![tactic(auto)]
 
-ghost use Rattle.std.specs.Prelude.{◌≡◌, [], ◌∷◌};
-ghost use Rattle.causes.specs.declared.Answer.{Answer};
-ghost use Rattle.causes.specs.declared.BuildAnswer.{BuildAnswer};
-ghost use Rattle.causes.specs.declared.LimitAnswer.{LimitAnswer};
-ghost use Rattle.causes.specs.declared.PairAnswer.{PairAnswer};
-ghost use Rattle.causes.specs.Causes.{build_answer_of, answer_of, pair_answer_of, limit_answer_of};
-ghost use Rattle.tables.specs.Tables.{lent, lent_to_fill, left};
+ghost use Rattle.std.specs.Prelude.{◌≡◌, [], ◌∷◌, ℕ, Option, Result};
+ghost use Rattle.causes.specs.declared.Cause.{Cause};
+ghost use Rattle.causes.specs.Causes.{answered, answer_of, pair_answer_of, limit_answer_of};
+ghost use Rattle.tables.specs.Tables.{tables, lent_to_fill, left};
 ghost use Rattle.tables.specs.Answers.{NumTokens, TokenLen};
 ghost use Rattle.byte_pair_encoding.specs.Pair.{PairChecked};
 ghost use Rattle.dictionary.specs.Build.{BuildIs};
@@ -24,54 +21,22 @@ ghost use Rattle.nahypora.specs.Packed.{packed, packed_of, Packs};
 mod intervals;
 mod typing_calls;
 
-use causes::{Answer, BuildAnswer, LimitAnswer, PairAnswer};
+use causes::{Cause, Told};
+use tables::Tables;
 
 // A cause's number and its place in one number.
+#[tactic(auto, unfolding(crate::specs::Packed::packed))]
 pub fn pack(number: u32, place: u64) -> u64
     ensures { result ≡ packed number place }
 {
-    let high = number as u64 * 4294967296;
-    if place < 4294967295 {
-        return high + place;
-    }
-    high + 4294967295
+    u64::from(number) * 4294967296 + place.min(4294967295)
 }
 
-// An answer that is a number or a refusal.
-fn pack_answer(answer: Answer) -> u64
-    ensures { result ≡ packed_of (answer_of answer) }
+// An answer in one number.
+fn pack_answer<T: Told + Copy>(answer: Result<T, Cause>) -> u64
+    ensures { result ≡ packed_of (answered T.told answer) }
 {
     pack(causes::answer_number(answer), causes::answer_place(answer))
-}
-
-// An answer of build.
-fn pack_build_answer(answer: BuildAnswer) -> u64
-    ensures { result ≡ packed_of (build_answer_of answer) }
-{
-    pack(
-        causes::build_answer_number(answer),
-        causes::build_answer_place(answer),
-    )
-}
-
-// An answer of the pair check.
-fn pack_pair_answer(answer: PairAnswer) -> u64
-    ensures { result ≡ packed_of (pair_answer_of answer) }
-{
-    pack(
-        causes::pair_answer_number(answer),
-        causes::pair_answer_place(answer),
-    )
-}
-
-// An answer of a count with a limit.
-fn pack_limit_answer(answer: LimitAnswer) -> u64
-    ensures { result ≡ packed_of (limit_answer_of answer) }
-{
-    pack(
-        causes::limit_answer_number(answer),
-        causes::limit_answer_place(answer),
-    )
 }
 
 #[unsafe(no_mangle)]
@@ -84,228 +49,320 @@ pub extern "C" fn bpe_from_dictionary(
     prefixes: &mut [u32],
     area: &mut [u32],
 ) -> u64
-    ensures { Packs build_answer_of (λ (a : BuildAnswer). BuildIs factor
+    ensures { Packs answer_of (λ (a : Result ℕ Cause). BuildIs factor
         (lent_to_fill file places lefts rights prefixes area) (left file places lefts rights prefixes area) a) result }
 {
-    let answer = dictionary::from_dictionary(file, factor, places, lefts, rights, prefixes, area);
-    pack_build_answer(answer)
+    pack_answer(dictionary::from_dictionary(file, factor, places, lefts, rights, prefixes, area))
 }
 
 #[unsafe(no_mangle)]
-pub extern "C" fn bpe_is_valid_token_pair(
-    file: &[u8],
-    places: &[u32],
-    lefts: &[u32],
-    rights: &[u32],
-    prefixes: &[u32],
-    area: &[u32],
+pub extern "C" fn bpe_is_valid_token_pair<'a>(
+    file: &'a [u8],
+    places: &'a [u32],
+    lefts: &'a [u32],
+    rights: &'a [u32],
+    prefixes: &'a [u32],
+    area: &'a [u32],
     token1: u32,
     token2: u32,
 ) -> u64
-    ensures { Packs pair_answer_of (PairChecked (lent file places lefts rights prefixes area) token1 token2) result }
+    ensures { Packs pair_answer_of (PairChecked (tables file.now places.now lefts.now rights.now prefixes.now area.now)
+        token1 token2) result }
 {
-    let answer = byte_pair_encoding::is_valid_token_pair(
-        file, places, lefts, rights, prefixes, area, token1, token2,
-    );
-    pack_pair_answer(answer)
+    let tables = Tables {
+        file,
+        places,
+        lefts,
+        rights,
+        prefixes,
+        area,
+    };
+    pack_answer(byte_pair_encoding::is_valid_token_pair(&tables, token1, token2))
 }
 
 #[unsafe(no_mangle)]
-pub extern "C" fn bpe_num_tokens(
-    file: &[u8],
-    places: &[u32],
-    lefts: &[u32],
-    rights: &[u32],
-    prefixes: &[u32],
-    area: &[u32],
+pub extern "C" fn bpe_num_tokens<'a>(
+    file: &'a [u8],
+    places: &'a [u32],
+    lefts: &'a [u32],
+    rights: &'a [u32],
+    prefixes: &'a [u32],
+    area: &'a [u32],
 ) -> u64
-    ensures { Packs answer_of (NumTokens (lent file places lefts rights prefixes area)) result }
+    ensures { Packs answer_of
+        (NumTokens (tables file.now places.now lefts.now rights.now prefixes.now area.now)) result }
 {
-    pack_answer(tables::num_tokens(file, places, lefts, rights, prefixes, area))
+    let tables = Tables {
+        file,
+        places,
+        lefts,
+        rights,
+        prefixes,
+        area,
+    };
+    pack_answer(tables::num_tokens(&tables))
 }
 
 #[unsafe(no_mangle)]
-pub extern "C" fn bpe_token_len(
-    file: &[u8],
-    places: &[u32],
-    lefts: &[u32],
-    rights: &[u32],
-    prefixes: &[u32],
-    area: &[u32],
+pub extern "C" fn bpe_token_len<'a>(
+    file: &'a [u8],
+    places: &'a [u32],
+    lefts: &'a [u32],
+    rights: &'a [u32],
+    prefixes: &'a [u32],
+    area: &'a [u32],
     token: u32,
 ) -> u64
-    ensures { Packs answer_of (TokenLen (lent file places lefts rights prefixes area) token) result }
+    ensures { Packs answer_of (TokenLen (tables file.now places.now lefts.now rights.now prefixes.now area.now)
+        token) result }
 {
-    pack_answer(tables::token_len(file, places, lefts, rights, prefixes, area, token))
+    let tables = Tables {
+        file,
+        places,
+        lefts,
+        rights,
+        prefixes,
+        area,
+    };
+    pack_answer(tables::token_len(&tables, token))
 }
 
 #[unsafe(no_mangle)]
-pub extern "C" fn bpe_encode_via_bitfield(
-    file: &[u8],
-    places: &[u32],
-    lefts: &[u32],
-    rights: &[u32],
-    prefixes: &[u32],
-    area: &[u32],
+pub extern "C" fn bpe_encode_via_bitfield<'a>(
+    file: &'a [u8],
+    places: &'a [u32],
+    lefts: &'a [u32],
+    rights: &'a [u32],
+    prefixes: &'a [u32],
+    area: &'a [u32],
     text: &[u8],
     out: &mut [u32],
     work: &mut [u32],
 ) -> u64
-    ensures { Packs answer_of (λ (a : Answer). Sends encode (lent file places lefts rights prefixes area)
+    ensures { Packs answer_of (λ (a : Result ℕ Cause). Sends encode
+        (tables file.now places.now lefts.now rights.now prefixes.now area.now)
         text.now out.old work.old out.new work.new a) result }
 {
-    pack_answer(byte_pair_encoding::encode_via_bitfield(
-        file, places, lefts, rights, prefixes, area, text, out, work,
-    ))
+    let tables = Tables {
+        file,
+        places,
+        lefts,
+        rights,
+        prefixes,
+        area,
+    };
+    pack_answer(byte_pair_encoding::encode_via_bitfield(&tables, text, out, work))
 }
 
 #[unsafe(no_mangle)]
-pub extern "C" fn bpe_encode_via_backtracking(
-    file: &[u8],
-    places: &[u32],
-    lefts: &[u32],
-    rights: &[u32],
-    prefixes: &[u32],
-    area: &[u32],
+pub extern "C" fn bpe_encode_via_backtracking<'a>(
+    file: &'a [u8],
+    places: &'a [u32],
+    lefts: &'a [u32],
+    rights: &'a [u32],
+    prefixes: &'a [u32],
+    area: &'a [u32],
     text: &[u8],
     out: &mut [u32],
     work: &mut [u32],
 ) -> u64
-    ensures { Packs answer_of (λ (a : Answer). Sends encode (lent file places lefts rights prefixes area)
+    ensures { Packs answer_of (λ (a : Result ℕ Cause). Sends encode
+        (tables file.now places.now lefts.now rights.now prefixes.now area.now)
         text.now out.old work.old out.new work.new a) result }
 {
-    pack_answer(byte_pair_encoding::encode_via_backtracking(
-        file, places, lefts, rights, prefixes, area, text, out, work,
-    ))
+    let tables = Tables {
+        file,
+        places,
+        lefts,
+        rights,
+        prefixes,
+        area,
+    };
+    pack_answer(byte_pair_encoding::encode_via_backtracking(&tables, text, out, work))
 }
 
 #[unsafe(no_mangle)]
-pub extern "C" fn bpe_encode_via_table(
-    file: &[u8],
-    places: &[u32],
-    lefts: &[u32],
-    rights: &[u32],
-    prefixes: &[u32],
-    area: &[u32],
+pub extern "C" fn bpe_encode_via_table<'a>(
+    file: &'a [u8],
+    places: &'a [u32],
+    lefts: &'a [u32],
+    rights: &'a [u32],
+    prefixes: &'a [u32],
+    area: &'a [u32],
     text: &[u8],
     out: &mut [u32],
     work: &mut [u32],
 ) -> u64
-    ensures { Packs answer_of (λ (a : Answer). Sends encode (lent file places lefts rights prefixes area)
+    ensures { Packs answer_of (λ (a : Result ℕ Cause). Sends encode
+        (tables file.now places.now lefts.now rights.now prefixes.now area.now)
         text.now out.old work.old out.new work.new a) result }
 {
-    pack_answer(byte_pair_encoding::encode_via_table(
-        file, places, lefts, rights, prefixes, area, text, out, work,
-    ))
+    let tables = Tables {
+        file,
+        places,
+        lefts,
+        rights,
+        prefixes,
+        area,
+    };
+    pack_answer(byte_pair_encoding::encode_via_table(&tables, text, out, work))
 }
 
 #[unsafe(no_mangle)]
-pub extern "C" fn bpe_encode_minimal(
-    file: &[u8],
-    places: &[u32],
-    lefts: &[u32],
-    rights: &[u32],
-    prefixes: &[u32],
-    area: &[u32],
+pub extern "C" fn bpe_encode_minimal<'a>(
+    file: &'a [u8],
+    places: &'a [u32],
+    lefts: &'a [u32],
+    rights: &'a [u32],
+    prefixes: &'a [u32],
+    area: &'a [u32],
     text: &[u8],
     out: &mut [u32],
     work: &mut [u32],
 ) -> u64
-    ensures { Packs answer_of (λ (a : Answer). Sends shortest (lent file places lefts rights prefixes area)
+    ensures { Packs answer_of (λ (a : Result ℕ Cause). Sends shortest
+        (tables file.now places.now lefts.now rights.now prefixes.now area.now)
         text.now out.old work.old out.new work.new a) result }
 {
-    pack_answer(byte_pair_encoding::encode_minimal(
-        file, places, lefts, rights, prefixes, area, text, out, work,
-    ))
+    let tables = Tables {
+        file,
+        places,
+        lefts,
+        rights,
+        prefixes,
+        area,
+    };
+    pack_answer(byte_pair_encoding::encode_minimal(&tables, text, out, work))
 }
 
 #[unsafe(no_mangle)]
-pub extern "C" fn bpe_encode_greedy(
-    file: &[u8],
-    places: &[u32],
-    lefts: &[u32],
-    rights: &[u32],
-    prefixes: &[u32],
-    area: &[u32],
+pub extern "C" fn bpe_encode_greedy<'a>(
+    file: &'a [u8],
+    places: &'a [u32],
+    lefts: &'a [u32],
+    rights: &'a [u32],
+    prefixes: &'a [u32],
+    area: &'a [u32],
     text: &[u8],
     out: &mut [u32],
     work: &mut [u32],
 ) -> u64
-    ensures { Packs answer_of (λ (a : Answer). Sends greedy (lent file places lefts rights prefixes area)
+    ensures { Packs answer_of (λ (a : Result ℕ Cause). Sends greedy
+        (tables file.now places.now lefts.now rights.now prefixes.now area.now)
         text.now out.old work.old out.new work.new a) result }
 {
-    pack_answer(byte_pair_encoding::encode_greedy(
-        file, places, lefts, rights, prefixes, area, text, out, work,
-    ))
+    let tables = Tables {
+        file,
+        places,
+        lefts,
+        rights,
+        prefixes,
+        area,
+    };
+    pack_answer(byte_pair_encoding::encode_greedy(&tables, text, out, work))
 }
 
 #[unsafe(no_mangle)]
-pub extern "C" fn bpe_count(
-    file: &[u8],
-    places: &[u32],
-    lefts: &[u32],
-    rights: &[u32],
-    prefixes: &[u32],
-    area: &[u32],
+pub extern "C" fn bpe_count<'a>(
+    file: &'a [u8],
+    places: &'a [u32],
+    lefts: &'a [u32],
+    rights: &'a [u32],
+    prefixes: &'a [u32],
+    area: &'a [u32],
     text: &[u8],
     work: &mut [u32],
 ) -> u64
-    ensures { Packs answer_of (λ (a : Answer). Counts (lent file places lefts rights prefixes area)
+    ensures { Packs answer_of (λ (a : Result ℕ Cause). Counts
+        (tables file.now places.now lefts.now rights.now prefixes.now area.now)
         text.now work.old work.new a) result }
 {
-    pack_answer(byte_pair_encoding::count(file, places, lefts, rights, prefixes, area, text, work))
+    let tables = Tables {
+        file,
+        places,
+        lefts,
+        rights,
+        prefixes,
+        area,
+    };
+    pack_answer(byte_pair_encoding::count(&tables, text, work))
 }
 
 #[unsafe(no_mangle)]
-pub extern "C" fn bpe_count_till_limit(
-    file: &[u8],
-    places: &[u32],
-    lefts: &[u32],
-    rights: &[u32],
-    prefixes: &[u32],
-    area: &[u32],
+pub extern "C" fn bpe_count_till_limit<'a>(
+    file: &'a [u8],
+    places: &'a [u32],
+    lefts: &'a [u32],
+    rights: &'a [u32],
+    prefixes: &'a [u32],
+    area: &'a [u32],
     text: &[u8],
     limit: u64,
     work: &mut [u32],
 ) -> u64
-    ensures { Packs limit_answer_of (λ (a : LimitAnswer). CountsTillLimit
-        (lent file places lefts rights prefixes area) text.now limit work.old work.new a) result }
+    ensures { Packs limit_answer_of (λ (a : Result (Option ℕ) Cause). CountsTillLimit
+        (tables file.now places.now lefts.now rights.now prefixes.now area.now)
+        text.now limit work.old work.new a) result }
 {
-    pack_limit_answer(byte_pair_encoding::count_till_limit(
-        file, places, lefts, rights, prefixes, area, text, limit, work,
-    ))
+    let tables = Tables {
+        file,
+        places,
+        lefts,
+        rights,
+        prefixes,
+        area,
+    };
+    pack_answer(byte_pair_encoding::count_till_limit(&tables, text, limit, work))
 }
 
 #[unsafe(no_mangle)]
-pub extern "C" fn bpe_decode_tokens(
-    file: &[u8],
-    places: &[u32],
-    lefts: &[u32],
-    rights: &[u32],
-    prefixes: &[u32],
-    area: &[u32],
+pub extern "C" fn bpe_decode_tokens<'a>(
+    file: &'a [u8],
+    places: &'a [u32],
+    lefts: &'a [u32],
+    rights: &'a [u32],
+    prefixes: &'a [u32],
+    area: &'a [u32],
     tokens: &[u32],
     out: &mut [u8],
 ) -> u64
-    ensures { Packs answer_of (λ (a : Answer). Decodes (lent file places lefts rights prefixes area)
+    ensures { Packs answer_of (λ (a : Result ℕ Cause). Decodes
+        (tables file.now places.now lefts.now rights.now prefixes.now area.now)
         tokens.now out.old out.new a) result }
 {
-    pack_answer(decoder::decode_tokens(file, places, lefts, rights, prefixes, area, tokens, out))
+    let tables = Tables {
+        file,
+        places,
+        lefts,
+        rights,
+        prefixes,
+        area,
+    };
+    pack_answer(decoder::decode_tokens(&tables, tokens, out))
 }
 
 #[unsafe(no_mangle)]
-pub extern "C" fn bpe_token_bytes(
-    file: &[u8],
-    places: &[u32],
-    lefts: &[u32],
-    rights: &[u32],
-    prefixes: &[u32],
-    area: &[u32],
+pub extern "C" fn bpe_token_bytes<'a>(
+    file: &'a [u8],
+    places: &'a [u32],
+    lefts: &'a [u32],
+    rights: &'a [u32],
+    prefixes: &'a [u32],
+    area: &'a [u32],
     token: u32,
     out: &mut [u8],
 ) -> u64
-    ensures { Packs answer_of (λ (a : Answer). Decodes (lent file places lefts rights prefixes area)
+    ensures { Packs answer_of (λ (a : Result ℕ Cause). Decodes
+        (tables file.now places.now lefts.now rights.now prefixes.now area.now)
         (token ∷ []) out.old out.new a) result }
 {
-    pack_answer(decoder::token_bytes(file, places, lefts, rights, prefixes, area, token, out))
+    let tables = Tables {
+        file,
+        places,
+        lefts,
+        rights,
+        prefixes,
+        area,
+    };
+    pack_answer(decoder::token_bytes(&tables, token, out))
 }

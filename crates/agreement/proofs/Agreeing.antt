@@ -12,10 +12,9 @@ use Rattle.theory.specs.Typing.{append, count_at}
 use Rattle.theory.proofs.Typing.{count_at-last}
 use Rattle.theory.proofs.Encode.{encode-spells}
 use Rattle.theory.proofs.Decoding.{codes_fit}
-use Rattle.causes.proofs.Calls.{some-none, numbers_apart, value-given, refused-given}
+use Rattle.causes.proofs.Calls.{some-none, value-given, refused-given}
 use Rattle.tables.specs.Tables.{Tables}
-use Rattle.causes.specs.declared.Answer.{Answer}
-use Rattle.causes.specs.declared.Answer.TheVariants.{Number, Refused}
+use Rattle.std.specs.Prelude.{Result, Ok, Err, Some, None, IsErrAnd}
 use Rattle.built_tables.specs.Built.{dictionary_of, Built}
 use Rattle.built_tables.proofs.Rows.{lawful-is}
 use Rattle.byte_pair_encoding.specs.Sending.{Written, Sends}
@@ -24,18 +23,17 @@ use Rattle.byte_pair_encoding.specs.Refusals.{send_refusal, count_refusal}
 use Rattle.byte_pair_encoding.proofs.Refusals.{count_as_send, not_refused, no-refusal}
 use Rattle.byte_pair_encoding.proofs.Promises.{sending_allowed}
 use Rattle.typing.specs.Text.{TextTyped}
-use Rattle.agreement.specs.declared.Agreement.{Agreement}
 use Rattle.typing_columns.specs.Columns.{last_count}
-use Rattle.agreement.specs.Agreement.{agreement_of, TypedCount, Compared, AsMerged, Agrees}
+use Rattle.agreement.specs.Agreement.{Agreement, agreement_of, TypedCount, Compared, AsMerged, Agrees}
 
 -- the cases of the answer
-all_same : (refusal : Option Cause) (sent counted last : ℕ) → refusal ≡ none → sent ≡ counted → sent ≡ last → agreement_of refusal sent counted last ≡ Agreement.Agree sent
+all_same : (refusal : Option Cause) (sent counted last : ℕ) → refusal ≡ none → sent ≡ counted → sent ≡ last → agreement_of refusal sent counted last ≡ Ok (Some sent)
 all_same refusal sent counted last e f g = rw (e, eq-eqb sent counted f, eq-eqb sent last g)
 
-other-count : (refusal : Option Cause) (sent counted last : ℕ) → refusal ≡ none → (sent ≡ counted → ⊥) → agreement_of refusal sent counted last ≡ Agreement.Differ
+other-count : (refusal : Option Cause) (sent counted last : ℕ) → refusal ≡ none → (sent ≡ counted → ⊥) → agreement_of refusal sent counted last ≡ (Ok None)
 other-count refusal sent counted last e f = rw (e, ne_eqb sent counted f)
 
-other_last : (refusal : Option Cause) (sent counted last : ℕ) → refusal ≡ none → sent ≡ counted → (sent ≡ last → ⊥) → agreement_of refusal sent counted last ≡ Agreement.Differ
+other_last : (refusal : Option Cause) (sent counted last : ℕ) → refusal ≡ none → sent ≡ counted → (sent ≡ last → ⊥) → agreement_of refusal sent counted last ≡ (Ok None)
 other_last refusal sent counted last e f g = rw (e, eq-eqb sent counted f, ne_eqb sent last g)
 
 -- the count of the last byte, where there is one
@@ -86,14 +84,14 @@ module _ (T : Tables) (text counts : List ℕ) where
       built = λ n B room.
           let m = merged n B in
           let last = last-merged n B room.counts_room counts' typed m.typed_is m.counts_are in
-          is ∙ all_same refusal sent counted (last_count counts' typed) allowed (m.sent_is ∙ sym m.counted_is) (m.sent_is ∙ sym last) ∙ ap Agreement.Agree m.sent_is;
+          is ∙ all_same refusal sent counted (last_count counts' typed) allowed (m.sent_is ∙ sym m.counted_is) (m.sent_is ∙ sym last) ∙ ap (λ (k : ℕ). Ok (Some k)) m.sent_is;
     }
 
-    module _ (out' work' : List ℕ) (sending : Answer) (s : Sends encode T text out work out' work' sending) where
+    module _ (out' work' : List ℕ) (sending : Result ℕ Cause) (s : Sends encode T text out work out' work' sending) where
       -- the sender refuses
-      pub send_refused : (cause : Cause) → sending ≡ Refused cause → Agrees T text out work counts out' work' counts (Agreement.Refused cause)
-      send_refused cause e =
-          let why : refusal ≡ some cause = refused-given numbers_apart s cause e in
+      refused-sending : (cause : Cause) → sending ≡ Err cause → Agrees T text out work counts out' work' counts (Err cause)
+      refused-sending cause e =
+          let why : refusal ≡ some cause = refused-given s cause e in
           record {
             sent = 0;
             counted = 0;
@@ -106,11 +104,17 @@ module _ (T : Tables) (text counts : List ℕ) where
                 some-none why (sending_allowed T text n B room.short out work room.out_room room.work_room);
           }
 
-      module _ (number : ℕ) (e : sending ≡ Number number) where
-        sent-given : (refusal ≡ none) × (s.value ≡ number)
-        sent-given = value-given numbers_apart s number e
+      -- and its refusal is handed on
+      pub send_refused : (cause : Cause) → sending ≡ Err cause → (r : Agreement) → IsErrAnd r (λ (given : Cause). given ≡ cause)
+          → Agrees T text out work counts out' work' counts r
+      send_refused cause e (Ok number) h = absurd h
+      send_refused cause e (Err given) h = rw h (refused-sending cause e)
 
-        module _ (work'' : List ℕ) (counting : Answer) (c : Counts T text work' work'' counting) where
+      module _ (number : ℕ) (e : sending ≡ Ok number) where
+        sent-given : (refusal ≡ none) × (s.value ≡ number)
+        sent-given = value-given s number e
+
+        module _ (work'' : List ℕ) (counting : Result ℕ Cause) (c : Counts T text work' work'' counting) where
           abbrev counter_refusal : Option Cause
           counter_refusal = count_refusal T text work'
 
@@ -123,13 +127,12 @@ module _ (T : Tables) (text counts : List ℕ) where
               count_as_send T text work' ∙ not_refused T text work' work' held.short room room held.is_in_form.0 held.is_in_form.1
 
           -- so that it cannot refuse
-          pub count-refused : (cause : Cause) → counting ≡ Refused cause
-              → Agrees T text out work counts out' work'' counts (Agreement.Refused cause)
-          count-refused cause f = some-none (refused-given numbers_apart c cause f) count_allowed
+          pub count-refused : (cause : Cause) → counting ≡ Err cause → (r : Agreement) → Agrees T text out work counts out' work'' counts r
+          count-refused cause f r = some-none (refused-given c cause f) count_allowed
 
-          module _ (k : ℕ) (f : counting ≡ Number k) where
+          module _ (k : ℕ) (f : counting ≡ Ok k) where
             count_is : c.value ≡ k
-            count_is = (value-given numbers_apart c k f).1
+            count_is = (value-given c k f).1
 
             both-written : Written file text out work out' work'' s.value
             both-written =
@@ -149,10 +152,10 @@ module _ (T : Tables) (text counts : List ℕ) where
             both-merged n B = ((s.given sent-given.0).built n B).count_is ∙ sym ((c.given count_allowed).built n B)
 
             -- sender and counter differ: nothing is typed
-            pub count_differs : (number ≡ k → ⊥) → Agrees T text out work counts out' work'' counts Agreement.Differ
+            pub count_differs : (number ≡ k → ⊥) → Agrees T text out work counts out' work'' counts (Ok None)
             count_differs d =
                 let differ : s.value ≡ c.value → ⊥ = λ q. d (sym sent-given.1 ∙ q ∙ count_is) in
-                compared_agrees out' work'' counts Agreement.Differ s.value c.value 0 sent-given.0
+                compared_agrees out' work'' counts (Ok None) s.value c.value 0 sent-given.0
                 (sym (other-count refusal s.value c.value 0 sent-given.0 differ))
                 (record { written = both-written; few_counted = (c.given count_allowed).few; few_typed = omega arith; counts_length = refl; counts_beyond = refl; counts_kept = λ q. refl })
                 (λ n B. absurd (differ (both-merged n B)))
@@ -186,13 +189,13 @@ module _ (T : Tables) (text counts : List ℕ) where
                     counts_are = x.counted n B;
                   })
 
-              pub typing_differs : (number ≡ t → ⊥) → Agrees T text out work counts out' work'' counts' Agreement.Differ
+              pub typing_differs : (number ≡ t → ⊥) → Agrees T text out work counts out' work'' counts' (Ok None)
               typing_differs d =
-                  all_typed Agreement.Differ
+                  all_typed (Ok None)
                   (sym (other_last refusal s.value c.value (last_count counts' typing.typed) sent-given.0 same_numbers (λ q. d (sym sent-given.1 ∙ q ∙ sym typing.is))))
 
-              pub all_agree : number ≡ t → Agrees T text out work counts out' work'' counts' (Agreement.Agree number)
+              pub all_agree : number ≡ t → Agrees T text out work counts out' work'' counts' (Ok (Some number))
               all_agree q =
-                  all_typed (Agreement.Agree number)
-                  (ap Agreement.Agree (sym sent-given.1)
+                  all_typed (Ok (Some number))
+                  (ap (λ (k : ℕ). Ok (Some k)) (sym sent-given.1)
                   ∙ sym (all_same refusal s.value c.value (last_count counts' typing.typed) sent-given.0 same_numbers (sent-given.1 ∙ q ∙ typing.is)))

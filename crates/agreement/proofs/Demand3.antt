@@ -5,7 +5,8 @@ use mathlib.Core.List.{List, [], ◌∷◌}
 use Prim.Native.Nat.{ℕ, ◌-◌, ◌<◌}
 use lib.ListN.{length, take, drop}
 use lib.Seq.{take_at}
-use Rattle.causes.specs.declared.BuildAnswer.TheVariants.{Rows}
+use Rattle.std.specs.Prelude.{Bool, Result, Ok}
+use Rattle.causes.specs.declared.Cause.{Cause}
 use Rattle.phrase_file.specs.Form.{rows}
 use Rattle.theory.specs.Dictionary.{Dictionary, Octets}
 use Rattle.theory.specs.Merge.{encode}
@@ -15,13 +16,9 @@ use Rattle.theory.specs.Tree.{interval_count}
 use Rattle.theory.specs.Demands.{ExactlyOne}
 use Rattle.theory.proofs.Demands.{demand_2_paper, demand_3_exactly_one}
 use Rattle.causes.specs.Call.{to_passes}
-use Rattle.causes.proofs.Calls.{rows_apart, numbers_apart, given-answer, value-given}
+use Rattle.causes.proofs.Calls.{given-answer, value-given}
 use Rattle.causes.proofs.Unknown.{unknown-behind, unknown-none}
 use Rattle.tables.specs.Tables.{Tables}
-use Rattle.causes.specs.declared.Answer.{Answer}
-use Rattle.causes.specs.declared.Answer.TheVariants.{Number}
-use Rattle.causes.specs.declared.PairAnswer.{PairAnswer}
-use Rattle.causes.specs.declared.PairAnswer.TheVariants.{Passes}
 use Rattle.byte_pair_encoding.specs.Pair.{pair_refusal, PairChecked}
 use Rattle.dictionary.specs.Build.{BuildIs}
 use Rattle.built_tables.specs.Built.{dictionary_of, Built}
@@ -37,7 +34,7 @@ use Rattle.agreement.specs.Demand3.{Demand3}
 use Rattle.agreement.proofs.RoundTrip.{round_trip}
 
 -- a file that `from_dictionary` accepted with n rows, and the tables T as that call left them
-module _ (factor : ℕ) (lent T : Tables) (n : ℕ) (accepted : BuildIs factor lent T (Rows n)) where
+module _ (factor : ℕ) (lent T : Tables) (n : ℕ) (accepted : BuildIs factor lent T (Ok n)) where
   open T use {file}
 
   abbrev D : Dictionary
@@ -45,7 +42,7 @@ module _ (factor : ℕ) (lent T : Tables) (n : ℕ) (accepted : BuildIs factor l
 
   -- what the layers above use of it
   left : Built T n
-  left = let v = value-given rows_apart accepted n refl in subst (λ (k : ℕ). Built T k) v.1 (accepted.given v.0).built
+  left = let v = value-given accepted n refl in subst (λ (k : ℕ). Built T k) v.1 (accepted.given v.0).built
 
   exactly_one : (text : List ℕ) → Octets text → ExactlyOne D text (encode D text)
   unfolding dictionary_of
@@ -61,37 +58,37 @@ module _ (factor : ℕ) (lent T : Tables) (n : ℕ) (accepted : BuildIs factor l
   all_rows_are : D.count ≡ n
   all_rows_are = row_count file T.places n (ready T n left).places_ready
 
-  pairs : (token1 token2 : ℕ) (r : PairAnswer) → PairChecked T token1 token2 r
-      → token1 < n → token2 < n → r ≡ Passes (passes D D.count token1 token2)
+  pairs : (token1 token2 : ℕ) (r : Result Bool Cause) → PairChecked T token1 token2 r
+      → token1 < n → token2 < n → r ≡ Ok (passes D D.count token1 token2)
   unfolding pair_refusal
   pairs token1 token2 r c h k =
       let known : pair_refusal T token1 token2 ≡ none =
       rw (is_in_form T n left, ← counted, unknown-behind n token1 (token2 ∷ []) h, unknown-behind n token2 [] k, unknown-none n) in
-      given-answer to_passes c known ∙ ap Passes (c.given known n left) ∙ ap (λ (q : ℕ). Passes (passes D q token1 token2)) (sym all_rows_are)
+      given-answer to_passes c known ∙ ap Ok (c.given known n left) ∙ ap (λ (q : ℕ). Ok (passes D q token1 token2)) (sym all_rows_are)
 
-  sending : (text out work out' work' : List ℕ) (r : Answer) → Sends encode T text out work out' work' r
-      → (count : ℕ) → r ≡ Number count → (count ≡ length (encode D text)) × (take count out' ≡ encode D text)
+  sending : (text out work out' work' : List ℕ) (r : Result ℕ Cause) → Sends encode T text out work out' work' r
+      → (count : ℕ) → r ≡ Ok count → (count ≡ length (encode D text)) × (take count out' ≡ encode D text)
   sending text out work out' work' r s count e =
-      let given = value-given numbers_apart s count e in
+      let given = value-given s count e in
       let codes = (s.given given.0).built n left in
       let same : count ≡ length (encode D text) = sym given.1 ∙ codes.count_is in
       (same, ap (take count) codes.codes_are ∙ take_at (encode D text) (drop s.value out) count (sym same))
 
-  counting : (text work work' : List ℕ) (r : Answer) → Counts T text work work' r
-      → (count : ℕ) → r ≡ Number count → count ≡ length (encode D text)
+  counting : (text work work' : List ℕ) (r : Result ℕ Cause) → Counts T text work work' r
+      → (count : ℕ) → r ≡ Ok count → count ≡ length (encode D text)
   counting text work work' r s count e =
-      let given = value-given numbers_apart s count e in
+      let given = value-given s count e in
       sym given.1 ∙ (s.given given.0).built n left
 
   intervals : (text codes numbers ends depths work codes' numbers' ends' depths' work' : List ℕ) (m : ℕ)
-      → Prepares T text codes numbers ends depths work codes' numbers' ends' depths' work' (Number m)
-      → (from to : ℕ) (scratch scratch' : List ℕ) (r : Answer)
+      → Prepares T text codes numbers ends depths work codes' numbers' ends' depths' work' (Ok m)
+      → (from to : ℕ) (scratch scratch' : List ℕ) (r : Result ℕ Cause)
       → Interval.Counts T text codes' numbers' ends' depths' from to scratch scratch' r
-      → (count : ℕ) → r ≡ Number count → count ≡ length (encode D (take (to - from) (drop from text)))
+      → (count : ℕ) → r ≡ Ok count → count ≡ length (encode D (take (to - from) (drop from text)))
   unfolding interval_count
   intervals text codes numbers ends depths work codes' numbers' ends' depths' work' m p from to scratch scratch' r c count e =
-      let prepared = (p.given (value-given numbers_apart p m refl).0).built n left in
-      let given = value-given numbers_apart c count e in
+      let prepared = (p.given (value-given p m refl).0).built n left in
+      let given = value-given c count e in
       sym given.1 ∙ (c.given given.0).built n left prepared
 
   pub demand_3 : Demand3 T n

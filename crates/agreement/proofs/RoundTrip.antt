@@ -7,7 +7,7 @@ use native.Mathlib.Omega.{arith}
 use lib.ListN.{length, get_or, take, drop}
 use lib.Seq.{take_at, length-take-le, get_or-take}
 use Rattle.causes.specs.Call.{to_number}
-use Rattle.causes.proofs.Calls.{numbers_apart, value-given, given-answer}
+use Rattle.causes.proofs.Calls.{value-given, given-answer}
 use Rattle.phrase_file.specs.Form.{rows}
 use Rattle.phrase_file.proofs.Checks.{accepted}
 use Rattle.theory.specs.Dictionary.{Dictionary, Octets, spell}
@@ -16,8 +16,8 @@ use Rattle.theory.specs.Shortest.{shortest, greedy}
 use Rattle.theory.specs.Parts.{Accepted, dictionary}
 use Rattle.theory.proofs.Demands.{demand_2_decoding}
 use Rattle.tables.specs.Tables.{Tables}
-use Rattle.causes.specs.declared.Answer.{Answer}
-use Rattle.causes.specs.declared.Answer.TheVariants.{Number}
+use Rattle.std.specs.Prelude.{Result, Ok}
+use Rattle.causes.specs.declared.Cause.{Cause}
 use Rattle.built_tables.specs.Built.{dictionary_of, Built}
 use Rattle.built_tables.proofs.InForm.{is_in_form}
 use Rattle.byte_pair_encoding.specs.Sending.{Sends}
@@ -41,11 +41,11 @@ module _ (T : Tables) (n : ℕ) (B : Built T n) where
 
   module _ (M : Dictionary → List ℕ → List ℕ) (m : Spells M) where
     -- whatever an encoder left: the first codes of the output, as many as it answered
-    written : (text out work out' work' : List ℕ) (sent : Answer) → Sends M T text out work out' work' sent → Octets text
-        → (count : ℕ) → sent ≡ Number count → Decodable file text n (take count out')
+    written : (text out work out' work' : List ℕ) (sent : Result ℕ Cause) → Sends M T text out work out' work' sent → Octets text
+        → (count : ℕ) → sent ≡ Ok count → Decodable file text n (take count out')
     unfolding dictionary_of
     written text out work out' work' sent s o count e =
-        let a = value-given numbers_apart s count e in
+        let a = value-given s count e in
         let w = (s.given a.0).written in
         let b = (s.given a.0).built n B in
         let p = no-refusal T text out work a.0 in
@@ -69,7 +69,7 @@ module _ (T : Tables) (n : ℕ) (B : Built T n) where
         let v = d.given free in
         let size : d.value ≡ length text = v.size_is ∙ ap length w.spells in
         record {
-          answer = given-answer to_number d free ∙ ap Number size;
+          answer = given-answer to_number d free ∙ ap Ok size;
           output = v.output ∙ (λ j. w.spells j ++ drop (size j) room);
         }
 

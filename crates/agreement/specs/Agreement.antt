@@ -1,5 +1,6 @@
 -- What the sender and the counters say of one text, and what they leave.
 use Rattle.std.specs.Prelude.{◌≡◌, List, ◌++◌, cond, ◌&&◌, ℕ, ◌≤◌, ◌<◌, min, length, get_or, drop, eqb}
+use Rattle.std.specs.Prelude.{Option as Maybe, Some, None, Result, Ok, Err}
 use Rattle.std.proofs.Math.Option.{Option, none, some}
 use Rattle.causes.specs.declared.Cause.{Cause}
 use Rattle.theory.specs.Merge.{encode}
@@ -10,8 +11,6 @@ use Rattle.built_tables.specs.Built.{dictionary_of, Built}
 use Rattle.byte_pair_encoding.specs.Sending.{Written}
 use Rattle.typing_columns.specs.Columns.{last_count}
 use Rattle.typing.specs.Text.{TextTyped}
-use Rattle.agreement.specs.declared.Agreement.{Agreement}
-use Rattle.agreement.specs.declared.Agreement.TheVariants.{Agree, Differ, Refused}
 
 -- a text of at most 4,096 bytes, and buffers with one number per byte
 pub record Room (text out work counts : List ℕ) : Type 0 where
@@ -20,11 +19,15 @@ pub record Room (text out work counts : List ℕ) : Type 0 where
   pub work_room : length text ≤ length work
   pub counts_room : length text ≤ length counts
 
+-- what the comparison answers: the number of codes that all of them have, none where they differ, or a refusal
+abbrev pub Agreement : Type 0
+Agreement = Result (Maybe ℕ) Cause
+
 -- the answer: the refusal if there is one, else whether the number sent is the number counted and the count after the
 -- last byte typed
 abbrev pub agreement_of : Option Cause → ℕ → ℕ → ℕ → Agreement
-agreement_of none sent counted last = cond (eqb sent counted && eqb sent last) (Agree sent) Differ
-agreement_of (some cause) sent counted last = Refused cause
+agreement_of none sent counted last = cond (eqb sent counted && eqb sent last) (Ok (Some sent)) (Ok None)
+agreement_of (some cause) sent counted last = Err cause
 
 -- the text typed byte by byte, and the count after the last byte typed
 pub record TypedCount (T : Tables) (text counts counts' : List ℕ) (r : ℕ) : Type 0 where
@@ -70,4 +73,4 @@ pub record Agrees (T : Tables) (text out work counts out' work' counts' : List �
   pub merged : (n : ℕ) → Built T n → send_refusal T text out work ≡ none
       → AsMerged T.file text out counts out' counts' sent counted typed
   pub built : (n : ℕ) → Built T n → Room text out work counts
-      → r ≡ Agree (length (encode (dictionary_of T.file) text))
+      → r ≡ Ok (Some (length (encode (dictionary_of T.file) text)))

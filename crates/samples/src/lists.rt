@@ -1,10 +1,11 @@
 // The tables and the search area: lent to a build and to the calls after it.
 use crate::buffers::Buffer;
 use crate::fields::{entry, size, split_word};
-use causes::BuildAnswer;
+use crate::saying::say_answer;
 use placed_rows::NONE;
 use std::alloc::{AllocError, Global};
 use std::io;
+use tables::Tables;
 
 // How many numbers of the search area a build fills.
 const AREA: usize = 16384;
@@ -39,6 +40,18 @@ impl Lists {
         self.area.lend_all();
     }
 
+    // What is lent, with a phrase file.
+    pub(crate) fn lent<'a>(&'a self, file: &'a [u8]) -> Tables<'a> {
+        Tables {
+            file,
+            places: self.places.lent(),
+            lefts: self.lefts.lent(),
+            rights: self.rights.lent(),
+            prefixes: self.prefixes.lent(),
+            area: self.area.lent(),
+        }
+    }
+
     // `set TABLE ENTRY VALUE`: writes an entry of a table, if it has such an entry.
     pub(crate) fn set(&mut self, arguments: &[u8]) {
         let (name, left) = split_word(arguments);
@@ -68,15 +81,14 @@ impl Lists {
             self.prefixes.lent_mut(),
             self.area.lent_mut(),
         );
-        let number = causes::build_answer_number(answer);
-        let place = causes::build_answer_place(answer);
+        say_answer(rt, answer)?;
         let n = count_rows(file);
         let places = state(&self.places, n);
         let lefts = state(&self.lefts, n);
         let rights = state(&self.rights, n);
         let prefixes = state(&self.prefixes, n);
         let area = state(&self.area, AREA);
-        println!(rt; " {number} {place} {places} {lefts} {rights} {prefixes} {area}")
+        println!(rt; " {places} {lefts} {rights} {prefixes} {area}")
     }
 
     // `entries ROW`: its place, left part, right part and prefix, 0 beyond a table.
@@ -96,10 +108,7 @@ fn at(table: &Buffer<u32>, row: usize) -> u32 {
 
 // The count of rows of a file, 0 if its form is refused.
 fn count_rows(file: &[u8]) -> usize {
-    match phrase_file::check_file(file) {
-        BuildAnswer::Rows(n) => n,
-        BuildAnswer::Refused(_) => 0,
-    }
+    phrase_file::check_file(file).unwrap_or(0)
 }
 
 // What a build did to a buffer of which it fills the first n numbers.

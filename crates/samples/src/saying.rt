@@ -1,9 +1,12 @@
 // What is printed of the answers of calls.
-use causes::Answer;
+use causes::{Cause, Told};
 use std::io;
 
 // The number and the place of an answer.
-pub(crate) fn say_answer(rt: &impl Print, answer: Answer) -> io::Result<()> {
+pub(crate) fn say_answer<T: Told + Copy>(
+    rt: &impl Print,
+    answer: Result<T, Cause>,
+) -> io::Result<()> {
     let number = causes::answer_number(answer);
     let place = causes::answer_place(answer);
     print!(rt; " {number} {place}")

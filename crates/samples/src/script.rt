@@ -5,9 +5,10 @@ use crate::fields::{Unescaped, entry, number, size, split_word};
 use crate::files::PhraseFile;
 use crate::lists::Lists;
 use crate::saying::{say_answer, say_codes, say_kept};
-use causes::Answer;
+use causes::Cause;
 use std::alloc::{AllocError, Global};
 use std::io;
+use tables::Tables;
 
 // How many bytes of a text and how many codes there is room for: more than a call takes.
 const ROOM: usize = 4200;
@@ -142,33 +143,18 @@ impl Script {
     // An encoder of the text, over buffers that hold canaries.
     fn send<F>(&mut self, rt: &impl Print, encode: F) -> io::Result<()>
     where
-        F: Fn(
-            &[u8],
-            &[u32],
-            &[u32],
-            &[u32],
-            &[u32],
-            &[u32],
-            &[u8],
-            &mut [u32],
-            &mut [u32],
-        ) -> Answer,
+        F: Fn(&Tables<'_>, &[u8], &mut [u32], &mut [u32]) -> Result<usize, Cause>,
         requires { F.IsAlwaysCallable encode }
     {
         self.output.fill();
         self.work.fill();
         let answer = encode(
-            &self.file.bytes,
-            self.lists.places.lent(),
-            self.lists.lefts.lent(),
-            self.lists.rights.lent(),
-            self.lists.prefixes.lent(),
-            self.lists.area.lent(),
+            &self.lists.lent(&self.file.bytes),
             &self.text,
             self.output.lent_mut(),
             self.work.lent_mut(),
         );
-        let end = written(answer);
+        let end = answer.unwrap_or(0);
         say_answer(rt, answer)?;
         say_codes(rt, self.output.front(end))?;
         let scratch = self.scratch(answer);
@@ -176,23 +162,15 @@ impl Script {
     }
 
     // How many work numbers a call may write: one for each byte of the text; none after a refusal.
-    fn scratch(&self, answer: Answer) -> usize {
-        match answer {
-            Answer::Number(_) => self.text.len(),
-            Answer::Refused(_) => 0,
-        }
+    fn scratch<T: Copy>(&self, answer: Result<T, Cause>) -> usize {
+        if answer.is_ok() { self.text.len() } else { 0 }
     }
 
     // `count`
     fn count(&mut self, rt: &impl Print) -> io::Result<()> {
         self.work.fill();
         let answer = byte_pair_encoding::count(
-            &self.file.bytes,
-            self.lists.places.lent(),
-            self.lists.lefts.lent(),
-            self.lists.rights.lent(),
-            self.lists.prefixes.lent(),
-            self.lists.area.lent(),
+            &self.lists.lent(&self.file.bytes),
             &self.text,
             self.work.lent_mut(),
         );
@@ -205,20 +183,13 @@ impl Script {
     fn count_till_limit(&mut self, rt: &impl Print, limit: u64) -> io::Result<()> {
         self.work.fill();
         let answer = byte_pair_encoding::count_till_limit(
-            &self.file.bytes,
-            self.lists.places.lent(),
-            self.lists.lefts.lent(),
-            self.lists.rights.lent(),
-            self.lists.prefixes.lent(),
-            self.lists.area.lent(),
+            &self.lists.lent(&self.file.bytes),
             &self.text,
             limit,
             self.work.lent_mut(),
         );
-        let number = causes::limit_answer_number(answer);
-        let place = causes::limit_answer_place(answer);
-        print!(rt; " {number} {place}")?;
-        let scratch = if number == 0 { self.text.len() } else { 0 };
+        say_answer(rt, answer)?;
+        let scratch = self.scratch(answer);
         say_kept(rt, self.work.is_kept(scratch))
     }
 
@@ -226,12 +197,7 @@ impl Script {
     fn decode(&mut self, rt: &impl Print) -> io::Result<()> {
         self.bytes.fill();
         let answer = decoder::decode_tokens(
-            &self.file.bytes,
-            self.lists.places.lent(),
-            self.lists.lefts.lent(),
-            self.lists.rights.lent(),
-            self.lists.prefixes.lent(),
-            self.lists.area.lent(),
+            &self.lists.lent(&self.file.bytes),
             &self.codes,
             self.bytes.lent_mut(),
         );
@@ -242,12 +208,7 @@ impl Script {
     fn token_bytes(&mut self, rt: &impl Print, code: u32) -> io::Result<()> {
         self.bytes.fill();
         let answer = decoder::token_bytes(
-            &self.file.bytes,
-            self.lists.places.lent(),
-            self.lists.lefts.lent(),
-            self.lists.rights.lent(),
-            self.lists.prefixes.lent(),
-            self.lists.area.lent(),
+            &self.lists.lent(&self.file.bytes),
             code,
             self.bytes.lent_mut(),
         );
@@ -255,8 +216,8 @@ impl Script {
     }
 
     // The answer of a call that decodes, and the bytes.
-    fn say_bytes(&self, rt: &impl Print, answer: Answer) -> io::Result<()> {
-        let end = written(answer);
+    fn say_bytes(&self, rt: &impl Print, answer: Result<usize, Cause>) -> io::Result<()> {
+        let end = answer.unwrap_or(0);
         say_answer(rt, answer)?;
         print!(rt; ": ")?;
         rt.write_all(self.bytes.front(end))?;
@@ -265,29 +226,14 @@ impl Script {
 
     // `rows`
     fn num_tokens(&self, rt: &impl Print) -> io::Result<()> {
-        let answer = tables::num_tokens(
-            &self.file.bytes,
-            self.lists.places.lent(),
-            self.lists.lefts.lent(),
-            self.lists.rights.lent(),
-            self.lists.prefixes.lent(),
-            self.lists.area.lent(),
-        );
+        let answer = tables::num_tokens(&self.lists.lent(&self.file.bytes));
         say_answer(rt, answer)?;
         println!(rt)
     }
 
     // `length ROW`
     fn token_len(&self, rt: &impl Print, row: u32) -> io::Result<()> {
-        let answer = tables::token_len(
-            &self.file.bytes,
-            self.lists.places.lent(),
-            self.lists.lefts.lent(),
-            self.lists.rights.lent(),
-            self.lists.prefixes.lent(),
-            self.lists.area.lent(),
-            row,
-        );
+        let answer = tables::token_len(&self.lists.lent(&self.file.bytes), row);
         say_answer(rt, answer)?;
         println!(rt)
     }
@@ -296,25 +242,11 @@ impl Script {
     fn check_pair(&self, rt: &impl Print, arguments: &[u8]) -> io::Result<()> {
         let (_, left) = split_word(arguments);
         let answer = byte_pair_encoding::is_valid_token_pair(
-            &self.file.bytes,
-            self.lists.places.lent(),
-            self.lists.lefts.lent(),
-            self.lists.rights.lent(),
-            self.lists.prefixes.lent(),
-            self.lists.area.lent(),
+            &self.lists.lent(&self.file.bytes),
             entry(arguments),
             entry(left),
         );
-        let number = causes::pair_answer_number(answer);
-        let place = causes::pair_answer_place(answer);
-        println!(rt; " {number} {place}")
-    }
-}
-
-// How many numbers or bytes an answer says were written; none after a refusal.
-fn written(answer: Answer) -> usize {
-    match answer {
-        Answer::Number(count) => count,
-        Answer::Refused(_) => 0,
+        say_answer(rt, answer)?;
+        println!(rt)
     }
 }

@@ -1,158 +1,100 @@
 // Every refusal of interval preparation, and of the count after it. Each case lends buffers that hold a pattern, does
-// both calls, and prints their answers and whether every buffer is as before. What must be
-// printed comes from tools/refusals.py.
-use crate::said::{say_call, say_kept};
-use crate::texts::lent;
+// both calls, and prints their answers and whether every buffer is as before. What must be printed comes from
+// tools/refusals.py.
+use crate::intervals::Lists;
+use crate::said::{Answered, kept_or_changed};
+use crate::texts::front;
+use std::alloc::{AllocError, Global};
 use std::io;
-use words::{front, front_numbers, say, say_field};
-
-// Last codes, a table of the tree or work numbers, for a text of four bytes.
-type Lent = [u32; 8];
+use tables::Tables;
 
 // What stands in each place of a buffer before the calls: a row, but no number of a prefix of four bytes.
 const PATTERN: u32 = 7;
 
-// The buffers, by number.
-const CODES: usize = 0;
+// The buffer that is one number short for a text of four bytes.
+#[derive(Clone, Copy, PartialEq)]
+enum Short {
+    Codes,
+    Numbers,
+    Ends,
+    Depths,
+    Work,
+    Nothing,
+}
 
-const NUMBERS: usize = 1;
+// A case: how many bytes the text has, which buffer is short, how many entries of the search area are lent (the tables
+// are out of form with fewer than 16,384), where the piece from 3 ends.
+#[derive(Clone, Copy)]
+struct Case(usize, Short, usize, usize);
 
-const ENDS: usize = 2;
-
-const DEPTHS: usize = 3;
-
-const WORK: usize = 4;
-
-// The cases: how many bytes the text has, which buffer is short (5: none), how many entries of the search area are lent
-// (the tables are out of form with fewer than 16,384), where the piece from 3 ends.
-const BYTES: [usize; 11] = [4, 4097, 4, 4, 4, 4, 4, 4, 4, 4, 4097];
-
-const SHORT: [usize; 11] = [5, 5, 0, 1, 2, 3, 4, 5, 5, 4, 4];
-
-const AREAS: [usize; 11] = [
-    16384, 16384, 16384, 16384, 16384, 16384, 16384, 16383, 16383, 16383, 16383,
+const CASES: [Case; 11] = [
+    Case(4, Short::Nothing, 16384, 4),
+    Case(4097, Short::Nothing, 16384, 4),
+    Case(4, Short::Codes, 16384, 4),
+    Case(4, Short::Numbers, 16384, 4),
+    Case(4, Short::Ends, 16384, 4),
+    Case(4, Short::Depths, 16384, 4),
+    Case(4, Short::Work, 16384, 4),
+    Case(4, Short::Nothing, 16383, 4),
+    Case(4, Short::Nothing, 16383, 2),
+    Case(4, Short::Work, 16383, 2),
+    Case(4097, Short::Work, 16383, 2),
 ];
 
-const END: [usize; 11] = [4, 4, 4, 4, 4, 4, 4, 4, 2, 2, 2];
-
-// Whether nothing was written to a buffer.
-fn kept(buffer: &Lent) -> bool {
-    let mut i = 0;
-    while i < 8 {
-        if buffer[i] != PATTERN {
-            return false;
-        }
-        i += 1;
-    }
-    true
+// Lists that hold the pattern, one of them short.
+fn patterns(alloc: Global, short: Short) -> Result<Lists, AllocError> {
+    let room = |list: Short, few: usize| if list == short { few } else { 8 };
+    Ok(Lists {
+        last_codes: vec![in alloc; PATTERN; room(Short::Codes, 3)]?,
+        numbers: vec![in alloc; PATTERN; room(Short::Numbers, 4)]?,
+        ends: vec![in alloc; PATTERN; room(Short::Ends, 4)]?,
+        depths: vec![in alloc; PATTERN; room(Short::Depths, 4)]?,
+        work: vec![in alloc; PATTERN; room(Short::Work, 3)]?,
+    })
 }
 
-// How many numbers of a buffer are lent: so few if it is the short one.
-fn room(buffer: usize, short: usize, few: usize) -> usize {
-    if buffer == short {
-        return few;
-    }
-    8
+// Whether nothing was written to the lists.
+fn are_kept(lists: &Lists) -> bool {
+    let all = [
+        &lists.last_codes,
+        &lists.numbers,
+        &lists.ends,
+        &lists.depths,
+        &lists.work,
+    ];
+    all.iter()
+        .all(|list| list.iter().all(|number| *number == PATTERN))
 }
 
-// Prints the numbers of a case.
-fn say_case(
-    rt: &impl Print,
-    bytes: usize,
-    short: usize,
-    entries: usize,
-    end: usize,
-) -> io::Result<()> {
-    say(rt, b"bytes")?;
-    say_field(rt, bytes as u64)?;
-    say_field(rt, short as u64)?;
-    say_field(rt, entries as u64)?;
-    say_field(rt, end as u64)
-}
-
-// Prepares a text, and counts its piece from 3 to a place. The short buffer has one number less than four bytes need.
+// Prepares a text, and counts its piece from 3 to a place.
 fn try_case(
-    rt: &impl Print,
-    file: &[u8],
-    places: &[u32],
-    lefts: &[u32],
-    rights: &[u32],
-    prefixes: &[u32],
-    area: &[u32],
-    text: &[u8],
-    short: usize,
-    end: usize,
+    rt: &(impl Print + AllocGlobal),
+    tables: &Tables<'_>,
+    ones: &[u8],
+    case: Case,
 ) -> io::Result<()> {
-    let mut codes = [PATTERN; 8];
-    let mut numbers = [PATTERN; 8];
-    let mut ends = [PATTERN; 8];
-    let mut depths = [PATTERN; 8];
-    let mut work = [PATTERN; 8];
-    let prepared = interval_prepare::prepare(
-        file,
-        places,
-        lefts,
-        rights,
-        prefixes,
-        area,
-        text,
-        lent(&mut codes, room(CODES, short, 3)),
-        lent(&mut numbers, room(NUMBERS, short, 4)),
-        lent(&mut ends, room(ENDS, short, 4)),
-        lent(&mut depths, room(DEPTHS, short, 4)),
-        lent(&mut work, room(WORK, short, 3)),
-    );
-    let counted = interval_count::count(
-        file,
-        places,
-        lefts,
-        rights,
-        prefixes,
-        area,
-        text,
-        front_numbers(&codes, room(CODES, short, 3)),
-        front_numbers(&numbers, room(NUMBERS, short, 4)),
-        front_numbers(&ends, room(ENDS, short, 4)),
-        front_numbers(&depths, room(DEPTHS, short, 4)),
-        3,
-        end,
-        lent(&mut work, room(WORK, short, 3)),
-    );
-    say_case(rt, text.len(), short, area.len(), end)?;
-    say_call(rt, b": prepare", prepared)?;
-    say_call(rt, b", count", counted)?;
-    say_kept(
-        rt,
-        kept(&codes) && kept(&numbers) && kept(&ends) && kept(&depths) && kept(&work),
-    )?;
-    say(rt, b"\n")
+    let Case(bytes, short, entries, end) = case;
+    let text = front(ones, bytes);
+    let area = front(tables.area, entries);
+    let tables = Tables { area, ..*tables };
+    let mut lists = patterns(rt.alloc(), short)?;
+    let prepared = Answered(lists.prepare(&tables, text));
+    let counted = Answered(lists.count(&tables, text, 3, end));
+    let left = kept_or_changed(are_kept(&lists));
+    let number = short as u8;
+    print!(rt; "bytes {bytes} {number} {entries} {end}: ")?;
+    println!(rt; "prepare {prepared}, count {counted}, {left}")
 }
 
 // All cases, over the first bytes of a text.
 pub(crate) fn say_refusals(
-    rt: &impl Print,
-    file: &[u8],
-    places: &[u32],
-    lefts: &[u32],
-    rights: &[u32],
-    prefixes: &[u32],
-    area: &[u32],
-    text: &[u8; 4097],
+    rt: &(impl Print + AllocGlobal),
+    tables: &Tables<'_>,
+    ones: &[u8],
 ) -> io::Result<()> {
-    say(rt, b"intervals: bytes, short buffer, search area, end\n")?;
-    for k in 0..11 {
-        try_case(
-            rt,
-            file,
-            places,
-            lefts,
-            rights,
-            prefixes,
-            front_numbers(area, AREAS[k]),
-            front(text, BYTES[k]),
-            SHORT[k],
-            END[k],
-        )?;
+    println!(rt; "intervals: bytes, short buffer, search area, end")?;
+    for case in CASES {
+        try_case(rt, tables, ones, case)?;
     }
     Ok(())
 }

@@ -1,189 +1,95 @@
 // Counts of pieces of a text against `count` of each piece.
-use crate::said::{Tally, compare, held, say_answer};
-use causes::Answer;
+use crate::said::{Tally, say_answer};
+use causes::Cause;
+use interval_count::IntervalTables;
+use std::alloc::{AllocError, Global};
 use std::io;
-use words::part;
+use tables::Tables;
 
-// Last codes, a table of the tree or work numbers for a text of at most 200 bytes.
-type Tree = [u32; 201];
-
-// The count of a piece of a text.
-fn count_piece(
-    file: &[u8],
-    places: &[u32],
-    lefts: &[u32],
-    rights: &[u32],
-    prefixes: &[u32],
-    area: &[u32],
-    text: &[u8],
-    codes: &Tree,
-    numbers: &Tree,
-    ends: &Tree,
-    depths: &Tree,
-    start: usize,
-    end: usize,
-    work: &mut Tree,
-) -> Answer {
-    interval_count::count(
-        file, places, lefts, rights, prefixes, area, text, codes, numbers, ends, depths, start,
-        end, work,
-    )
+// The last codes and the tables of the tree of a text, and work numbers.
+#[derive(Drop)]
+pub(crate) struct Lists {
+    pub(crate) last_codes: Vec<u32>,
+    pub(crate) numbers: Vec<u32>,
+    pub(crate) ends: Vec<u32>,
+    pub(crate) depths: Vec<u32>,
+    pub(crate) work: Vec<u32>,
 }
 
-// The count of a piece of "abcd", over tables prepared for it.
-fn count_sample(
-    file: &[u8],
-    places: &[u32],
-    lefts: &[u32],
-    rights: &[u32],
-    prefixes: &[u32],
-    area: &[u32],
-    start: usize,
-    end: usize,
-) -> Answer {
-    let mut codes = [0u32; 201];
-    let mut numbers = [0u32; 201];
-    let mut ends = [0u32; 201];
-    let mut depths = [0u32; 201];
-    let mut work = [0u32; 201];
-    interval_prepare::prepare(
-        file,
-        places,
-        lefts,
-        rights,
-        prefixes,
-        area,
-        b"abcd",
-        &mut codes,
-        &mut numbers,
-        &mut ends,
-        &mut depths,
-        &mut work,
-    );
-    count_piece(
-        file, places, lefts, rights, prefixes, area, b"abcd", &codes, &numbers, &ends, &depths,
-        start, end, &mut work,
-    )
+impl Lists {
+    // Lists for a text of so many bytes.
+    fn new(alloc: Global, size: usize) -> Result<Self, AllocError> {
+        let entries = size.saturating_add(1);
+        Ok(Lists {
+            last_codes: vec![in alloc; 0; size]?,
+            numbers: vec![in alloc; 0; entries]?,
+            ends: vec![in alloc; 0; entries]?,
+            depths: vec![in alloc; 0; entries]?,
+            work: vec![in alloc; 0; size]?,
+        })
+    }
+
+    // Prepares them for a text.
+    pub(crate) fn prepare(&mut self, tables: &Tables<'_>, text: &[u8]) -> Result<usize, Cause> {
+        interval_prepare::prepare(
+            tables,
+            text,
+            &mut self.last_codes,
+            &mut self.numbers,
+            &mut self.ends,
+            &mut self.depths,
+            &mut self.work,
+        )
+    }
+
+    // The count of a piece of that text.
+    pub(crate) fn count(
+        &mut self,
+        tables: &Tables<'_>,
+        text: &[u8],
+        start: usize,
+        end: usize,
+    ) -> Result<usize, Cause> {
+        let prepared = IntervalTables {
+            text,
+            last_codes: &self.last_codes,
+            numbers: &self.numbers,
+            ends: &self.ends,
+            depths: &self.depths,
+        };
+        prepared.count(tables, start, end, &mut self.work)
+    }
 }
 
 // Prints the counts of four pieces of "abcd", two of which are refused.
-pub(crate) fn say_samples(
-    rt: &impl Print,
-    file: &[u8],
-    places: &[u32],
-    lefts: &[u32],
-    rights: &[u32],
-    prefixes: &[u32],
-    area: &[u32],
+pub(crate) fn say_samples(rt: &(impl Print + AllocGlobal), tables: &Tables<'_>) -> io::Result<()> {
+    let text = b"abcd";
+    let mut lists = Lists::new(rt.alloc(), text.len())?;
+    // A refusal would show in the counts.
+    let _ = lists.prepare(tables, text);
+    say_answer(rt, "P6 interval 1 to 4", lists.count(tables, text, 1, 4))?;
+    say_answer(rt, "P7 interval 2 to 2", lists.count(tables, text, 2, 2))?;
+    say_answer(rt, "interval 3 to 2", lists.count(tables, text, 3, 2))?;
+    say_answer(rt, "interval 0 to 5", lists.count(tables, text, 0, 5))
+}
+
+// Compares the counts of all pieces of a text.
+pub(crate) fn say_pieces(
+    rt: &(impl Print + AllocGlobal),
+    name: &str,
+    tables: &Tables<'_>,
+    text: &[u8],
 ) -> io::Result<()> {
-    say_answer(
-        rt,
-        b"P6 interval 1 to 4:",
-        count_sample(file, places, lefts, rights, prefixes, area, 1, 4),
-    )?;
-    say_answer(
-        rt,
-        b"P7 interval 2 to 2:",
-        count_sample(file, places, lefts, rights, prefixes, area, 2, 2),
-    )?;
-    say_answer(
-        rt,
-        b"interval 3 to 2:",
-        count_sample(file, places, lefts, rights, prefixes, area, 3, 2),
-    )?;
-    say_answer(
-        rt,
-        b"interval 0 to 5:",
-        count_sample(file, places, lefts, rights, prefixes, area, 0, 5),
-    )
-}
-
-// Compares the count of a piece, where there is such a piece.
-fn compare_piece(
-    file: &[u8],
-    places: &[u32],
-    lefts: &[u32],
-    rights: &[u32],
-    prefixes: &[u32],
-    area: &[u32],
-    text: &[u8; 200],
-    codes: &Tree,
-    numbers: &Tree,
-    ends: &Tree,
-    depths: &Tree,
-    start: usize,
-    end: usize,
-    work: &mut Tree,
-    tally: &mut Tally,
-) {
-    if end < start {
-        return;
+    let mut lists = Lists::new(rt.alloc(), text.len())?;
+    let mut work = vec![in rt.alloc(); 0; text.len()]?;
+    let mut tally = Tally::default();
+    // A refusal would show in the counts.
+    let _ = lists.prepare(tables, text);
+    for start in 0..=text.len() {
+        for end in start..=text.len() {
+            let wanted = byte_pair_encoding::count(tables, &text[start..end], &mut work);
+            tally.compare(lists.count(tables, text, start, end), wanted);
+        }
     }
-    let wanted = byte_pair_encoding::count(
-        file,
-        places,
-        lefts,
-        rights,
-        prefixes,
-        area,
-        part(text, start, end),
-        work,
-    );
-    let found = count_piece(
-        file, places, lefts, rights, prefixes, area, text, codes, numbers, ends, depths, start,
-        end, work,
-    );
-    compare(tally, held(found), wanted);
-}
-
-// Compares the counts of all pieces of a text: 201 starts and 201 ends.
-pub(crate) fn all_pieces(
-    file: &[u8],
-    places: &[u32],
-    lefts: &[u32],
-    rights: &[u32],
-    prefixes: &[u32],
-    area: &[u32],
-    text: &[u8; 200],
-) -> Tally {
-    let mut codes = [0u32; 201];
-    let mut numbers = [0u32; 201];
-    let mut ends = [0u32; 201];
-    let mut depths = [0u32; 201];
-    let mut work = [0u32; 201];
-    let mut tally = [0u64; 2];
-    interval_prepare::prepare(
-        file,
-        places,
-        lefts,
-        rights,
-        prefixes,
-        area,
-        text,
-        &mut codes,
-        &mut numbers,
-        &mut ends,
-        &mut depths,
-        &mut work,
-    );
-    for k in 0..40401 {
-        compare_piece(
-            file,
-            places,
-            lefts,
-            rights,
-            prefixes,
-            area,
-            text,
-            &codes,
-            &numbers,
-            &ends,
-            &depths,
-            k / 201,
-            k % 201,
-            &mut work,
-            &mut tally,
-        );
-    }
-    tally
+    println!(rt; "intervals of {name}: {tally}")
 }

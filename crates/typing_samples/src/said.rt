@@ -1,71 +1,71 @@
 // What is printed, and how many answers differ.
-use causes::Answer;
-use std::io;
-use words::{say, say_field, wide};
+use causes::Cause;
+use std::{fmt, io};
+use typing_columns::Side;
 
-// How many answers were compared, and how many of them differed.
-pub type Tally = [u64; 2];
-
-// The first four numbers.
-pub(crate) fn say_four(rt: &impl Print, name: &[u8], counts: &[u32; 4096]) -> io::Result<()> {
-    say(rt, name)?;
-    say_field(rt, wide(counts[0]))?;
-    say_field(rt, wide(counts[1]))?;
-    say_field(rt, wide(counts[2]))?;
-    say_field(rt, wide(counts[3]))?;
-    say(rt, b"\n")
-}
-
-// The number that an answer holds, or the refusal and its place.
-pub(crate) fn say_answer(rt: &impl Print, name: &[u8], answer: Answer) -> io::Result<()> {
-    say(rt, name)?;
-    let refusal = causes::answer_number(answer);
-    if refusal != 0 {
-        say(rt, b" refused")?;
-        say_field(rt, wide(refusal))?;
-        say(rt, b", place")?;
+// The name of a direction of typing.
+pub(crate) fn name_of(side: Side) -> &'static str {
+    match side {
+        Side::Append => "append",
+        Side::Prepend => "prepend",
     }
-    say_field(rt, causes::answer_place(answer))?;
-    say(rt, b"\n")
 }
 
-// The number and the place of the answer of a call.
-pub(crate) fn say_call(rt: &impl Print, name: &[u8], answer: Answer) -> io::Result<()> {
-    say(rt, name)?;
-    say_field(rt, wide(causes::answer_number(answer)))?;
-    say_field(rt, causes::answer_place(answer))
+// An answer by its number and its place.
+#[derive(Drop)]
+pub(crate) struct Answered(pub(crate) Result<usize, Cause>);
+
+impl fmt::Display for Answered {
+    fn fmt<W: fmt::Write>(&self, f: &mut fmt::Formatter<W>) -> fmt::Result {
+        let number = causes::answer_number(self.0);
+        let place = causes::answer_place(self.0);
+        write!(f, "{number} {place}")
+    }
 }
 
 // Whether what was lent is as before.
-pub(crate) fn say_kept(rt: &impl Print, kept: bool) -> io::Result<()> {
-    if kept {
-        say(rt, b", as before")
-    } else {
-        say(rt, b", CHANGED")
-    }
+pub(crate) fn kept_or_changed(kept: bool) -> &'static str {
+    if kept { "as before" } else { "CHANGED" }
 }
 
-pub(crate) fn say_tally(rt: &impl Print, name: &[u8], tally: Tally) -> io::Result<()> {
-    say(rt, name)?;
-    say(rt, b" compared")?;
-    say_field(rt, tally[0])?;
-    say(rt, b", differing")?;
-    say_field(rt, tally[1])?;
-    say(rt, b"\n")
-}
-
-// The number that an answer holds, or the largest number in place of a refusal.
-pub(crate) fn held(answer: Answer) -> u64 {
+// The number that an answer holds, or the refusal and its place.
+pub(crate) fn say_answer(
+    rt: &impl Print,
+    name: &str,
+    answer: Result<usize, Cause>,
+) -> io::Result<()> {
     match answer {
-        Answer::Number(count) => count as u64,
-        Answer::Refused(_) => u64::MAX,
+        Ok(count) => println!(rt; "{name}: {count}"),
+        Err(cause) => {
+            let number = cause.number();
+            let place = cause.place();
+            println!(rt; "{name}: refused {number}, place {place}")
+        }
     }
 }
 
-// Counts a number that was compared with an answer. A refusal differs from every number.
-pub(crate) fn compare(tally: &mut Tally, found: u64, wanted: Answer) {
-    tally[0] = tally[0].wrapping_add(1);
-    if causes::answer_number(wanted) != 0 || causes::answer_place(wanted) != found {
-        tally[1] = tally[1].wrapping_add(1);
+// How many answers were compared, and how many of them differed.
+#[derive(Default, Drop)]
+pub(crate) struct Tally {
+    compared: u64,
+    differing: u64,
+}
+
+impl Tally {
+    // Compares two answers. A refusal differs from every answer.
+    pub(crate) fn compare(&mut self, found: Result<usize, Cause>, wanted: Result<usize, Cause>) {
+        self.compared = self.compared.saturating_add(1);
+        match (found, wanted) {
+            (Ok(count), Ok(other)) if count == other => {}
+            _ => self.differing = self.differing.saturating_add(1),
+        }
+    }
+}
+
+impl fmt::Display for Tally {
+    fn fmt<W: fmt::Write>(&self, f: &mut fmt::Formatter<W>) -> fmt::Result {
+        let compared = self.compared;
+        let differing = self.differing;
+        write!(f, "compared {compared}, differing {differing}")
     }
 }

@@ -1,44 +1,17 @@
-// The phrase file E of document 01, the texts to type, and parts of texts and buffers.
-use words::put;
+// The phrase file E of document 01, and the texts to type.
+use std::alloc::{AllocError, Global};
+use typing_columns::Side;
 
-// A text, or its mirror: the same bytes from the end back.
-pub type Text = [u8; 4096];
-
-// A mark and a length byte.
-fn put_mark(file: &mut [u8], at: usize, size: u8) -> usize {
-    let mut end = put(file, at, 0xc7);
-    end = put(file, end, 0x51);
-    put(file, end, size)
-}
-
-// A row of one byte.
-fn put_letter(file: &mut [u8], at: usize, k: usize) -> usize {
-    let end = put_mark(file, at, 1);
-    put(file, end, (k % 256) as u8)
-}
-
-// The 256 bytes in order.
-fn put_letters(file: &mut [u8]) -> usize {
-    let mut end = 0;
-    for k in 0..256 {
-        end = put_letter(file, end, k);
+// The phrase file E: the 256 bytes in order, then bc, ab and cd.
+pub(crate) fn sample_e(alloc: Global) -> Result<Vec<u8>, AllocError> {
+    let mut file = Vec::new(alloc);
+    for byte in 0..=u8::MAX {
+        file.extend_from_slice(&[0xc7, 0x51, 1, byte])?;
     }
-    end
-}
-
-// A row of two bytes.
-fn put_pair(file: &mut [u8], at: usize, first: u8, second: u8) -> usize {
-    let mut end = put_mark(file, at, 2);
-    end = put(file, end, first);
-    put(file, end, second)
-}
-
-// Writes the file E and gives its size.
-pub(crate) fn put_sample_e(file: &mut [u8]) -> usize {
-    let mut end = put_letters(file);
-    end = put_pair(file, end, b'b', b'c');
-    end = put_pair(file, end, b'a', b'b');
-    put_pair(file, end, b'c', b'd')
+    for [first, second] in [*b"bc", *b"ab", *b"cd"] {
+        file.extend_from_slice(&[0xc7, 0x51, 2, first, second])?;
+    }
+    Ok(file)
 }
 
 // The number after x in a list that looks drawn by lot.
@@ -48,51 +21,29 @@ fn next_drawn(x: u64) -> u64 {
 
 // A letter from a to d.
 fn letter(x: u64) -> u8 {
-    97 + (x / 65536 % 4) as u8
+    b'a' + (x / 65536 % 4) as u8
 }
 
-// Fills a text with such letters.
-pub(crate) fn draw(text: &mut [u8], seed: u64) {
+// A text of so many of such letters.
+pub(crate) fn draw(alloc: Global, size: usize, seed: u64) -> Result<Vec<u8>, AllocError> {
+    let mut text = Vec::new(alloc);
     let mut x = seed;
-    let mut i = 0;
-    while i < text.len() {
+    for _ in 0..size {
         x = next_drawn(x);
-        text[i] = letter(x);
-        i += 1;
+        text.push(letter(x))?;
+    }
+    Ok(text)
+}
+
+// What typed bytes read: in prepending each byte went before the others.
+pub(crate) fn reading(alloc: Global, side: Side, typed: &[u8]) -> Result<Vec<u8>, AllocError> {
+    match side {
+        Side::Append => typed.to_vec(alloc),
+        Side::Prepend => typed.iter().rev().copied().collect(alloc),
     }
 }
 
-// A byte at a place of a text, and at the same place counted from the end in its mirror.
-fn put_both(text: &mut Text, mirror: &mut Text, at: usize, byte: u8) {
-    if at < 4096 {
-        text[at] = byte;
-        mirror[4095 - at] = byte;
-    }
-}
-
-// Writes a piece into a text and its mirror from a place on, as far as there is room.
-pub(crate) fn put_piece(text: &mut Text, mirror: &mut Text, at: usize, piece: &[u8]) {
-    let mut i = 0;
-    while i < piece.len() {
-        put_both(text, mirror, at.wrapping_add(i), piece[i]);
-        i += 1;
-    }
-}
-
-// The last k bytes, or all if there are fewer.
-pub(crate) fn back(s: &[u8], k: usize) -> &[u8] {
-    if s.len() < k {
-        return s;
-    }
-    let from = s.len() - k;
-    &s[from..]
-}
-
-// The first k numbers of a buffer to write to, or all if there are fewer.
-pub(crate) fn lent(buffer: &mut [u32], k: usize) -> &mut [u32] {
-    if buffer.len() < k {
-        buffer
-    } else {
-        &mut buffer[0..k]
-    }
+// The first so many, or all if there are fewer.
+pub(crate) fn front<T>(all: &[T], count: usize) -> &[T] {
+    all.get(..count).unwrap_or(all)
 }

@@ -1,215 +1,97 @@
 // Typed texts against `count` of what the typed bytes read.
-use crate::said::{Tally, compare, held};
-use crate::texts::{Text, back, put_piece};
-use causes::Answer;
-use typing_columns::Side;
-use words::{front, front_numbers, part, wide};
+use crate::said::{Tally, name_of};
+use crate::texts::reading;
+use causes::Cause;
+use std::alloc::{AllocError, Global};
+use std::io;
+use tables::Tables;
+use typing_columns::{Columns, Side};
 
-// Columns or work numbers.
-pub type Numbers = [u32; 4096];
-
-// The number of codes of the first `len` typed bytes: in prepending each byte went before the others.
-fn count_typed(
-    side: Side,
-    file: &[u8],
-    places: &[u32],
-    lefts: &[u32],
-    rights: &[u32],
-    prefixes: &[u32],
-    area: &[u32],
-    text: &Text,
-    mirror: &Text,
-    len: usize,
-    work: &mut Numbers,
-) -> Answer {
-    match side {
-        Side::Append => {
-            byte_pair_encoding::count(
-                file,
-                places,
-                lefts,
-                rights,
-                prefixes,
-                area,
-                front(text, len),
-                work,
-            )
-        }
-        Side::Prepend => {
-            byte_pair_encoding::count(
-                file,
-                places,
-                lefts,
-                rights,
-                prefixes,
-                area,
-                back(mirror, len),
-                work,
-            )
-        }
-    }
+// P4 and P5: the first four numbers.
+pub(crate) fn say_samples(rt: &impl Print, tables: &Tables<'_>) -> io::Result<()> {
+    let mut counts = [0; 4];
+    typing::type_text(tables, Side::Append, b"abcd", &mut counts);
+    let [a, b, c, d] = counts;
+    println!(rt; "P4 append: {a} {b} {c} {d}")?;
+    typing::type_text(tables, Side::Prepend, b"dcba", &mut counts);
+    let [a, b, c, d] = counts;
+    println!(rt; "P5 prepend d, c, b, a: {a} {b} {c} {d}")
 }
 
-// Compares each number, one for each byte, with `count` of the bytes typed so far.
-fn compare_all(
+// A text typed on one side, byte by byte into records and in pieces over columns.
+pub(crate) fn say_side(
+    rt: &(impl Print + AllocGlobal),
     side: Side,
-    file: &[u8],
-    places: &[u32],
-    lefts: &[u32],
-    rights: &[u32],
-    prefixes: &[u32],
-    area: &[u32],
-    text: &Text,
-    mirror: &Text,
-    counts: &[u32],
-    work: &mut Numbers,
-    tally: &mut Tally,
-) {
-    let mut i = 0;
-    while i < counts.len() {
-        let count = wide(counts[i]);
-        i += 1;
-        let wanted = count_typed(
-            side, file, places, lefts, rights, prefixes, area, text, mirror, i, work,
-        );
-        compare(tally, count, wanted);
-    }
+    tables: &Tables<'_>,
+    text: &[u8],
+) -> io::Result<()> {
+    let name = name_of(side);
+    let tally = by_bytes(rt.alloc(), side, tables, text)?;
+    println!(rt; "{name} byte by byte: {tally}")?;
+    let tally = by_pieces(rt.alloc(), side, tables, text, |_| 0)?;
+    println!(rt; "{name} in pieces: {tally}")?;
+    let tally = by_pieces(rt.alloc(), side, tables, text, |size| size / 2)?;
+    println!(rt; "{name} in pieces, halves taken back: {tally}")
+}
+
+// `count` of what typed bytes read.
+fn count_typed(
+    alloc: Global,
+    side: Side,
+    tables: &Tables<'_>,
+    typed: &[u8],
+) -> Result<Result<usize, Cause>, AllocError> {
+    let mut work = [0; 4096];
+    let text = reading(alloc, side, typed)?;
+    Ok(byte_pair_encoding::count(tables, &text, &mut work))
 }
 
 // Types a text, one byte after the other, into records, and compares the count after each.
-pub(crate) fn by_bytes(
+fn by_bytes(
+    alloc: Global,
     side: Side,
-    file: &[u8],
-    places: &[u32],
-    lefts: &[u32],
-    rights: &[u32],
-    prefixes: &[u32],
-    area: &[u32],
-    text: &Text,
-    mirror: &Text,
-) -> Tally {
-    let mut counts = [0u32; 4096];
-    let mut work = [0u32; 4096];
-    let mut tally = [0u64; 2];
-    let end = typing::type_text(
-        side,
-        file,
-        places,
-        lefts,
-        rights,
-        prefixes,
-        area,
-        text,
-        &mut counts,
-    );
-    compare_all(
-        side,
-        file,
-        places,
-        lefts,
-        rights,
-        prefixes,
-        area,
-        text,
-        mirror,
-        front_numbers(&counts, end),
-        &mut work,
-        &mut tally,
-    );
-    tally
-}
-
-// The length after a piece of so many bytes: the same, or with half of the piece taken back.
-fn kept(len: usize, size: usize, cutting: bool) -> usize {
-    if !cutting {
-        return len;
-    }
-    let half = size / 2;
-    if len < half {
-        return 0;
-    }
-    len - half
-}
-
-// Types a piece after `len` bytes, compares the count, and gives the new length.
-fn type_piece(
-    side: Side,
-    file: &[u8],
-    places: &[u32],
-    lefts: &[u32],
-    rights: &[u32],
-    prefixes: &[u32],
-    area: &[u32],
-    len: usize,
-    bytes: &mut Text,
-    codes: &mut Numbers,
-    counts: &mut Numbers,
-    piece: &[u8],
-    book: &mut Text,
-    mirror: &mut Text,
-    work: &mut Numbers,
-    tally: &mut Tally,
-) -> usize {
-    let extended = typing_columns::extend_columns(
-        side, file, places, lefts, rights, prefixes, area, len, 4096, bytes, codes, counts, piece,
-    );
-    let end = held(extended) as usize;
-    put_piece(book, mirror, len, piece);
-    let counted = typing_columns::count_columns(
-        side, file, places, lefts, rights, prefixes, area, end, 4096, bytes, codes, counts,
-    );
-    let wanted = count_typed(
-        side, file, places, lefts, rights, prefixes, area, book, mirror, end, work,
-    );
-    compare(tally, held(counted), wanted);
-    end
-}
-
-// Types a text in pieces of 1, 2, 3, .. bytes, as it is or with half of each piece taken back before the next one.
-// The bytes typed so far are kept in a book of our own.
-pub(crate) fn by_pieces(
-    side: Side,
-    file: &[u8],
-    places: &[u32],
-    lefts: &[u32],
-    rights: &[u32],
-    prefixes: &[u32],
-    area: &[u32],
-    text: &Text,
-    cutting: bool,
-) -> Tally {
-    let mut bytes = [0u8; 4096];
-    let mut codes = [0u32; 4096];
-    let mut counts = [0u32; 4096];
-    let mut book = [0u8; 4096];
-    let mut mirror = [0u8; 4096];
-    let mut work = [0u32; 4096];
-    let mut tally = [0u64; 2];
-    let mut len = 0;
-    let mut at = 0;
-    let mut size = 1;
-    while at < 4096 {
-        let end = type_piece(
-            side,
-            file,
-            places,
-            lefts,
-            rights,
-            prefixes,
-            area,
-            len,
-            &mut bytes,
-            &mut codes,
-            &mut counts,
-            front(part(text, at, 4096), size),
-            &mut book,
-            &mut mirror,
-            &mut work,
-            &mut tally,
+    tables: &Tables<'_>,
+    text: &[u8],
+) -> Result<Tally, AllocError> {
+    let mut tally = Tally::default();
+    let mut counts = [0; 4096];
+    let end = typing::type_text(tables, side, text, &mut counts);
+    for (place, count) in counts.iter().take(end).enumerate() {
+        let typed = text.get(..place + 1).unwrap_or(text);
+        tally.compare(
+            Ok(*count as usize),
+            count_typed(alloc, side, tables, typed)?,
         );
-        len = kept(end, size, cutting);
-        at += size;
-        size += 1;
     }
-    tally
+    Ok(tally)
+}
+
+// Types a text in pieces of 1, 2, 3, .. bytes, and compares the count after each. After a piece so many of its bytes
+// are taken back before the next one. The bytes typed so far are kept in a book of our own.
+fn by_pieces<F: Fn(usize) -> usize>(
+    alloc: Global,
+    side: Side,
+    tables: &Tables<'_>,
+    text: &[u8],
+    taken_back: F,
+) -> Result<Tally, AllocError>
+    requires { F.IsAlwaysCallable taken_back }
+{
+    let mut tally = Tally::default();
+    let mut columns = Columns::blank();
+    let mut book = Vec::new(alloc);
+    let mut left = text;
+    for size in 1..=text.len() {
+        if left.is_empty() {
+            break;
+        }
+        let (piece, others) = left.split_at(size.min(left.len()));
+        left = others;
+        let extended = columns.extend(tables, side, book.len(), 4096, piece);
+        book.extend_from_slice(piece)?;
+        let counted = extended.and_then(|end| columns.token_count(tables, side, end, 4096));
+        tally.compare(counted, count_typed(alloc, side, tables, &book)?);
+        book.truncate(book.len().saturating_sub(taken_back(size)));
+    }
+    Ok(tally)
 }

@@ -33,12 +33,14 @@ fn path_of(name: &[u8]) -> io::Result<&str> {
 }
 
 // All that an input gives, if it is no more than `most` bytes: one byte more tells the end from a longer input.
-fn read_all(alloc: Global, input: &mut impl Read, most: u32) -> Result<Vec<u8>, ReadError>
+fn read_all(alloc: Global, input: &mut impl Read, most: usize) -> Result<Vec<u8>, ReadError>
     ensures { IfOk result (λ bytes. vec_len bytes ≤ most) }
 {
     let mut bytes = Vec::new(alloc);
-    input.take(u64::from(most) + 1).read_to_end(&mut bytes)?;
-    if bytes.len() > most as usize {
+    input
+        .take((most as u64).saturating_add(1))
+        .read_to_end(&mut bytes)?;
+    if bytes.len() > most {
         return Err(ReadError::Over);
     }
     Ok(bytes)
@@ -48,7 +50,7 @@ fn read_all(alloc: Global, input: &mut impl Read, most: u32) -> Result<Vec<u8>, 
 pub fn read_named<R: Files + AllocGlobal>(
     rt: &R,
     name: &[u8],
-    most: u32,
+    most: usize,
 ) -> Result<Vec<u8>, ReadError>
     ensures { IfOk result (λ bytes. vec_len bytes ≤ most) }
 {
@@ -61,7 +63,7 @@ pub fn read_given<R: Files + AllocGlobal>(
     rt: &R,
     name: &[u8],
     input: &mut impl Read,
-    most: u32,
+    most: usize,
 ) -> Result<Vec<u8>, ReadError>
     ensures { IfOk result (λ bytes. vec_len bytes ≤ most) }
 {

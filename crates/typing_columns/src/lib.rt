@@ -149,7 +149,7 @@ impl Columns {
     }
 
     // Whether the records below `len` are in form.
-    pub fn records_in_form(
+    fn records_in_form(
         &self,
         tables: &RowTables<'_>,
         side: Side,

@@ -27,6 +27,7 @@ fn find_row(rows: &Rows<'_>, area: &[u32], x: u32) -> u32
 }
 
 // Whether x and y pass, as a number.
+// Kept: PairsReady (the clause of the export) needs it: only of a pair to check does it say that the rows may be read.
 fn pair_number<'a>(
     file: &'a [u8],
     places: &'a [u32],
@@ -63,6 +64,7 @@ fn write_each<F: Fn(usize) -> u32>(m: usize, out: &mut [u32], entry: F)
 }
 
 // Each code is looked up by its bytes.
+// Kept: C interface: the benchmark calls it by this name, with these slices.
 #[unsafe(no_mangle)]
 pub extern "C" fn measured_finds(
     file: &[u8],
@@ -81,6 +83,7 @@ pub extern "C" fn measured_finds(
 }
 
 // Each code is joined with the code at its place in the other list.
+// Kept: C interface: the benchmark calls it by this name, with these slices.
 #[unsafe(no_mangle)]
 pub extern "C" fn measured_joins(
     file: &[u8],
@@ -104,6 +107,7 @@ pub extern "C" fn measured_joins(
 }
 
 // Each code is checked with the code at its place in the other list.
+// Kept: C interface: the benchmark calls it by this name, with these slices.
 #[unsafe(no_mangle)]
 pub extern "C" fn measured_pairs(
     file: &[u8],
@@ -126,6 +130,7 @@ pub extern "C" fn measured_pairs(
 }
 
 // The core of `encode_minimal`, by itself.
+// Kept: C interface: the benchmark calls it by this name, with these slices.
 #[unsafe(no_mangle)]
 pub extern "C" fn measured_minimal<'a>(
     file: &'a [u8],
@@ -151,6 +156,7 @@ pub extern "C" fn measured_minimal<'a>(
 }
 
 // The core of `encode_greedy`, by itself.
+// Kept: C interface: the benchmark calls it by this name, with these slices.
 #[unsafe(no_mangle)]
 pub extern "C" fn measured_greedy<'a>(
     file: &'a [u8],

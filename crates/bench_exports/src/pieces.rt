@@ -24,6 +24,7 @@ fn piece_number(
 }
 
 // Each piece is counted.
+// Kept: C interface: the benchmark calls it by this name, with these slices.
 #[unsafe(no_mangle)]
 pub extern "C" fn measured_pieces<'a>(
     file: &'a [u8],

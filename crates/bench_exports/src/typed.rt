@@ -10,6 +10,7 @@ use tables::Tables;
 use typing_columns::{Columns, Side};
 
 // Types the bytes, each at the end (side 0) or each at the front; the number of bytes typed, or the place of a refusal.
+// Kept: C interface: the benchmark calls it by this name, with these slices.
 #[unsafe(no_mangle)]
 pub extern "C" fn measured_extend<'a>(
     file: &'a [u8],

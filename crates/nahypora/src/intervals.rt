@@ -13,6 +13,7 @@ use interval_count::IntervalTables;
 use tables::Tables;
 
 // Last codes, tree numbers, tree ends and depths of a text; the answer is the text's length.
+// Kept: C interface: C calls it by this name, with these slices.
 #[unsafe(no_mangle)]
 pub extern "C" fn bpe_interval_prepare<'a>(
     file: &'a [u8],
@@ -46,6 +47,7 @@ pub extern "C" fn bpe_interval_prepare<'a>(
 
 // The number of codes of the piece from start to end, the byte at the end not included, over the tables that
 // preparation left.
+// Kept: C interface: C calls it by this name, with these slices.
 #[unsafe(no_mangle)]
 pub extern "C" fn bpe_interval_count<'a>(
     file: &'a [u8],

@@ -39,6 +39,7 @@ fn pack_answer<T: Told + Copy>(answer: Result<T, Cause>) -> u64
     pack(causes::answer_number(answer), causes::answer_place(answer))
 }
 
+// Kept: C interface: C calls it by this name, with these slices.
 #[unsafe(no_mangle)]
 pub extern "C" fn bpe_from_dictionary(
     file: &[u8],
@@ -55,6 +56,7 @@ pub extern "C" fn bpe_from_dictionary(
     pack_answer(dictionary::from_dictionary(file, factor, places, lefts, rights, prefixes, area))
 }
 
+// Kept: C interface: C calls it by this name, with these slices.
 #[unsafe(no_mangle)]
 pub extern "C" fn bpe_is_valid_token_pair<'a>(
     file: &'a [u8],
@@ -80,6 +82,7 @@ pub extern "C" fn bpe_is_valid_token_pair<'a>(
     pack_answer(byte_pair_encoding::is_valid_token_pair(&tables, token1, token2))
 }
 
+// Kept: C interface: C calls it by this name, with these slices.
 #[unsafe(no_mangle)]
 pub extern "C" fn bpe_num_tokens<'a>(
     file: &'a [u8],
@@ -103,6 +106,7 @@ pub extern "C" fn bpe_num_tokens<'a>(
     pack_answer(tables::num_tokens(&tables))
 }
 
+// Kept: C interface: C calls it by this name, with these slices.
 #[unsafe(no_mangle)]
 pub extern "C" fn bpe_token_len<'a>(
     file: &'a [u8],
@@ -127,6 +131,7 @@ pub extern "C" fn bpe_token_len<'a>(
     pack_answer(tables::token_len(&tables, token))
 }
 
+// Kept: C interface: C calls it by this name, with these slices.
 #[unsafe(no_mangle)]
 pub extern "C" fn bpe_encode_via_bitfield<'a>(
     file: &'a [u8],
@@ -154,6 +159,7 @@ pub extern "C" fn bpe_encode_via_bitfield<'a>(
     pack_answer(byte_pair_encoding::encode_via_bitfield(&tables, text, out, work))
 }
 
+// Kept: C interface: C calls it by this name, with these slices.
 #[unsafe(no_mangle)]
 pub extern "C" fn bpe_encode_via_backtracking<'a>(
     file: &'a [u8],
@@ -181,6 +187,7 @@ pub extern "C" fn bpe_encode_via_backtracking<'a>(
     pack_answer(byte_pair_encoding::encode_via_backtracking(&tables, text, out, work))
 }
 
+// Kept: C interface: C calls it by this name, with these slices.
 #[unsafe(no_mangle)]
 pub extern "C" fn bpe_encode_via_table<'a>(
     file: &'a [u8],
@@ -208,6 +215,7 @@ pub extern "C" fn bpe_encode_via_table<'a>(
     pack_answer(byte_pair_encoding::encode_via_table(&tables, text, out, work))
 }
 
+// Kept: C interface: C calls it by this name, with these slices.
 #[unsafe(no_mangle)]
 pub extern "C" fn bpe_encode_minimal<'a>(
     file: &'a [u8],
@@ -235,6 +243,7 @@ pub extern "C" fn bpe_encode_minimal<'a>(
     pack_answer(byte_pair_encoding::encode_minimal(&tables, text, out, work))
 }
 
+// Kept: C interface: C calls it by this name, with these slices.
 #[unsafe(no_mangle)]
 pub extern "C" fn bpe_encode_greedy<'a>(
     file: &'a [u8],
@@ -262,6 +271,7 @@ pub extern "C" fn bpe_encode_greedy<'a>(
     pack_answer(byte_pair_encoding::encode_greedy(&tables, text, out, work))
 }
 
+// Kept: C interface: C calls it by this name, with these slices.
 #[unsafe(no_mangle)]
 pub extern "C" fn bpe_count<'a>(
     file: &'a [u8],
@@ -288,6 +298,7 @@ pub extern "C" fn bpe_count<'a>(
     pack_answer(byte_pair_encoding::count(&tables, text, work))
 }
 
+// Kept: C interface: C calls it by this name, with these slices.
 #[unsafe(no_mangle)]
 pub extern "C" fn bpe_count_till_limit<'a>(
     file: &'a [u8],
@@ -315,6 +326,7 @@ pub extern "C" fn bpe_count_till_limit<'a>(
     pack_answer(byte_pair_encoding::count_till_limit(&tables, text, limit, work))
 }
 
+// Kept: C interface: C calls it by this name, with these slices.
 #[unsafe(no_mangle)]
 pub extern "C" fn bpe_decode_tokens<'a>(
     file: &'a [u8],
@@ -341,6 +353,7 @@ pub extern "C" fn bpe_decode_tokens<'a>(
     pack_answer(decoder::decode_tokens(&tables, tokens, out))
 }
 
+// Kept: C interface: C calls it by this name, with these slices.
 #[unsafe(no_mangle)]
 pub extern "C" fn bpe_token_bytes<'a>(
     file: &'a [u8],

@@ -15,6 +15,7 @@ use typing::{Head, State};
 use typing_columns::Side;
 
 // One byte, at the end or at the front; the answer is the new length.
+// Kept: C interface: C calls it by this name, with these slices.
 #[unsafe(no_mangle)]
 pub extern "C" fn bpe_push<'a>(
     file: &'a [u8],
@@ -45,6 +46,7 @@ pub extern "C" fn bpe_push<'a>(
 }
 
 // Bytes in order, each at the end or each at the front; the answer is the new length.
+// Kept: C interface: C calls it by this name, with these slices.
 #[unsafe(no_mangle)]
 pub extern "C" fn bpe_extend<'a>(
     file: &'a [u8],
@@ -75,6 +77,7 @@ pub extern "C" fn bpe_extend<'a>(
 }
 
 // The first so many records kept; the answer is the new length. No tables are looked at, and the side does not matter.
+// Kept: C interface: C calls it by this name, with these slices.
 #[unsafe(no_mangle)]
 pub extern "C" fn bpe_truncate(keep: usize, head: &mut Head, states: &[State]) -> u64
     ensures { Packs answer_of (λ (a : Result ℕ Cause). Truncated head.old.len
@@ -84,6 +87,7 @@ pub extern "C" fn bpe_truncate(keep: usize, head: &mut Head, states: &[State]) -
 }
 
 // The count of the last record, 0 at length 0.
+// Kept: C interface: C calls it by this name, with these slices.
 #[unsafe(no_mangle)]
 pub extern "C" fn bpe_token_count<'a>(
     file: &'a [u8],

@@ -119,6 +119,7 @@ fn state(buffer: &Buffer<u32>, n: usize) -> &'static str {
     if !buffer.is_kept(n) {
         return "written beyond";
     }
+    // Kept: C interface: the tables that a call fills are numbers, of which this one says none.
     if buffer.front(n).iter().all(|number| *number == NONE) {
         return "none";
     }

@@ -22,6 +22,7 @@ pub(crate) fn say_codes(rt: &impl Print, codes: &[u32]) -> io::Result<()> {
 }
 
 // Whether the buffers beyond what the call may write are as before.
+// Kept: no plainer: the flag is what is said, and no other step hangs on it.
 pub(crate) fn say_kept(rt: &impl Print, as_before: bool) -> io::Result<()> {
     if as_before {
         println!(rt; "; the rest as before")

@@ -3,7 +3,7 @@
 // tools/refusals.py.
 use crate::intervals::Lists;
 use crate::said::{Answered, kept_or_changed};
-use crate::texts::front;
+use crate::texts::with_area;
 use std::alloc::{AllocError, Global};
 use std::io;
 use tables::Tables;
@@ -67,34 +67,24 @@ fn are_kept(lists: &Lists) -> bool {
 }
 
 // Prepares a text, and counts its piece from 3 to a place.
-fn try_case(
-    rt: &(impl Print + AllocGlobal),
-    tables: &Tables<'_>,
-    ones: &[u8],
-    case: Case,
-) -> io::Result<()> {
+fn try_case(rt: &(impl Print + AllocGlobal), tables: &Tables<'_>, case: Case) -> io::Result<()> {
     let Case(bytes, short, entries, end) = case;
-    let text = front(ones, bytes);
-    let area = front(tables.area, entries);
-    let tables = Tables { area, ..*tables };
+    let text = vec![in rt.alloc(); 1; bytes]?;
+    let tables = with_area(tables, entries);
     let mut lists = patterns(rt.alloc(), short)?;
-    let prepared = Answered(lists.prepare(&tables, text));
-    let counted = Answered(lists.count(&tables, text, 3, end));
+    let prepared = Answered(lists.prepare(&tables, &text));
+    let counted = Answered(lists.count(&tables, &text, 3, end));
     let left = kept_or_changed(are_kept(&lists));
     let number = short as u8;
     print!(rt; "bytes {bytes} {number} {entries} {end}: ")?;
     println!(rt; "prepare {prepared}, count {counted}, {left}")
 }
 
-// All cases, over the first bytes of a text.
-pub(crate) fn say_refusals(
-    rt: &(impl Print + AllocGlobal),
-    tables: &Tables<'_>,
-    ones: &[u8],
-) -> io::Result<()> {
+// All cases, over texts of ones.
+pub(crate) fn say_refusals(rt: &(impl Print + AllocGlobal), tables: &Tables<'_>) -> io::Result<()> {
     println!(rt; "intervals: bytes, short buffer, search area, end")?;
     for case in CASES {
-        try_case(rt, tables, ones, case)?;
+        try_case(rt, tables, case)?;
     }
     Ok(())
 }

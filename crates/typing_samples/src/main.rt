@@ -25,11 +25,10 @@ fn work(rt: &(impl Print + AllocGlobal), tables: &Tables<'_>) -> io::Result<()> 
     let letters = texts::draw(rt.alloc(), 200, 2)?;
     intervals::say_pieces(rt, "letters", tables, &letters)?;
     intervals::say_pieces(rt, "one byte repeated", tables, &[b'a'; 200])?;
-    let ones = [1; 4097];
     for side in [Side::Append, Side::Prepend] {
-        typing_refusals::say_side(rt, side, tables, &ones)?;
+        typing_refusals::say_side(rt, side, tables)?;
     }
-    interval_refusals::say_refusals(rt, tables, &ones)
+    interval_refusals::say_refusals(rt, tables)
 }
 
 fn main(rt: HostRuntime) -> io::Result<()> {

@@ -24,6 +24,7 @@ impl fmt::Display for Answered {
 }
 
 // Whether what was lent is as before.
+// Kept: no plainer: the flag is what is said, and no other step hangs on it.
 pub(crate) fn kept_or_changed(kept: bool) -> &'static str {
     if kept { "as before" } else { "CHANGED" }
 }

@@ -1,5 +1,6 @@
-// The phrase file E of document 01, and the texts to type.
+// The phrase file E of document 01, the texts to type, and tables with a part of the search area.
 use std::alloc::{AllocError, Global};
+use tables::Tables;
 use typing_columns::Side;
 
 // The phrase file E: the 256 bytes in order, then bc, ab and cd.
@@ -43,7 +44,8 @@ pub(crate) fn reading(alloc: Global, side: Side, typed: &[u8]) -> Result<Vec<u8>
     }
 }
 
-// The first so many, or all if there are fewer.
-pub(crate) fn front<T>(all: &[T], count: usize) -> &[T] {
-    all.get(..count).unwrap_or(all)
+// The tables with so many entries of the search area, or all if there are fewer.
+pub(crate) fn with_area<'a>(tables: &Tables<'a>, entries: usize) -> Tables<'a> {
+    let area = tables.area.get(..entries).unwrap_or(tables.area);
+    Tables { area, ..*tables }
 }

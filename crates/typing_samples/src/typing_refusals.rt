@@ -3,7 +3,7 @@
 // every record is as before, once before push and once after it. Truncate is told to keep more than there is, so that
 // nothing but added bytes can change anything. What must be printed comes from tools/refusals.py.
 use crate::said::{Answered, kept_or_changed, name_of};
-use crate::texts::front;
+use crate::texts::with_area;
 use std::alloc::{AllocError, Global};
 use std::io;
 use tables::Tables;
@@ -65,18 +65,16 @@ fn try_case(
     rt: &(impl Print + AllocGlobal),
     side: Side,
     tables: &Tables<'_>,
-    ones: &[u8],
     case: Case,
 ) -> io::Result<()> {
     let Case(records, len, wrong, entries, typed) = case;
     let number = wrong.unwrap_or(9999);
     print!(rt; "records {records} {len} {number} {entries} {typed}: ")?;
-    let area = front(tables.area, entries);
-    let tables = Tables { area, ..*tables };
+    let tables = with_area(tables, entries);
     let mut states = patterns(rt.alloc(), records, wrong)?;
     let mut head = Head { len };
-    let bytes = front(ones, typed);
-    let extended = Answered(typing::extend(&tables, side, &mut head, &mut states, bytes));
+    let bytes = vec![in rt.alloc(); 1; typed]?;
+    let extended = Answered(typing::extend(&tables, side, &mut head, &mut states, &bytes));
     let cut = Answered(typing::truncate(&mut head, &states, usize::MAX));
     let counted = Answered(typing::token_count(&tables, side, &head, &states));
     print!(rt; "extend {extended}, truncate {cut}, token_count {counted}, ")?;
@@ -94,12 +92,11 @@ pub(crate) fn say_side(
     rt: &(impl Print + AllocGlobal),
     side: Side,
     tables: &Tables<'_>,
-    ones: &[u8],
 ) -> io::Result<()> {
     let name = name_of(side);
     println!(rt; "{name}: records, length, record out of form, search area, bytes")?;
     for case in CASES {
-        try_case(rt, side, tables, ones, case)?;
+        try_case(rt, side, tables, case)?;
     }
     Ok(())
 }

@@ -9,6 +9,15 @@ root = names[0] if names else os.path.join(os.path.dirname(__file__), '..')
 sources = {p[len(root) + 1:]: open(p).read() for p in sorted(glob.glob(root + '/crates/*/src/**/*.rt', recursive=True))}
 places = collections.defaultdict(list)
 
+# A body that converts, takes a field, makes a struct of its arguments or chooses the lesser; a line that copies, fills
+# or compares; slices that many functions have; words that tell the shape of a body.
+CONVERSION = (r'\(?\w+(\.\w+)?\)? as (u8|u16|u32|u64|usize)|\w+\.\w+|\w+ \{ [\w, ]+ \}'
+              r'|if \w+ < \w+ \{ \w+ \} else \{ \w+ \}')
+COPY = (r'^\s*(\w+)\[(\w+)\] = (?:\w+\[\2\]|[A-Z][A-Z_]*|0|\w+);$'
+        r'|^\s*if (\w+)\[(\w+)\] != \w+\[\4\] \{$')
+ALONE = ('file', 'places', 'lefts', 'rights', 'prefixes', 'area', 'text', 'out', 'work', 'bytes')
+WORDS = ('if', 'while', 'for', 'return', 'match', 'let', 'mut')
+
 
 def note(point, path, text, at, what):
     places[point].append(f"{path}:{text.count(chr(10), 0, at) + 1}: {what}")
@@ -27,7 +36,8 @@ def functions(text):
             continue
         indent = re.match(r'\s*', text[text.rfind('\n', 0, m.start()) + 1:]).group()
         stop = re.compile(r'^' + indent + r'\}$', re.M).search(text, i)
-        yield m.start(), m[1], text[m.end():i - 1], text[i:i + brace.start()], text[i + brace.end():stop.start() if stop else i]
+        body = text[i + brace.end():stop.start() if stop else i]
+        yield m.start(), m[1], text[m.end():i - 1], text[i:i + brace.start()], body
 
 
 shapes = collections.defaultdict(list)
@@ -40,7 +50,8 @@ for path, text in sources.items():
         if len(cases) < 4 and values or re.search(r'Refused\(|Failed\(|Wrong', m[2]) and values:
             note(1, path, text, m.start(), f"enum {m[1]}: {', '.join(cases)}")
     for m in re.finditer(r'== NONE|!= NONE', text):
-        note(1, path, text, m.start(), 'a number that says none: ' + text[text.rfind('\n', 0, m.start()) + 1:m.end()].strip())
+        line = text[text.rfind('\n', 0, m.start()) + 1:m.end()].strip()
+        note(1, path, text, m.start(), 'a number that says none: ' + line)
     for at, name, parameters, clauses, body in functions(text):
         kinds = [re.sub(r"'\w+ ?", '', p) for p in re.findall(r'\w+: ([^,]+)', parameters)]
         for m in re.finditer(r'(\w+): bool', parameters):
@@ -56,9 +67,9 @@ for path, text in sources.items():
             if re.search(r'^\s*(\w+) [+-]= 1;', m[2], re.M):
                 note(3, path, text, at, f"fn {name}: loop with a count")
         lines = [l.strip() for l in body.strip().split('\n')]
-        if len(lines) == 1 and re.fullmatch(r'\(?\w+(\.\w+)?\)? as (u8|u16|u32|u64|usize)|\w+\.\w+|\w+ \{ [\w, ]+ \}|if \w+ < \w+ \{ \w+ \} else \{ \w+ \}', lines[0]):
+        if len(lines) == 1 and re.fullmatch(CONVERSION, lines[0]):
             note(4, path, text, at, f"fn {name}: {lines[0]}")
-        for m in re.finditer(r'^\s*(\w+)\[(\w+)\] = (?:\w+\[\2\]|[A-Z][A-Z_]*|0|\w+);$|^\s*if (\w+)\[(\w+)\] != \w+\[\4\] \{$', body, re.M):
+        for m in re.finditer(COPY, body, re.M):
             if re.search(r'^\s*' + (m[2] or m[4]) + r' [+-]= 1;', body, re.M) and len(lines) < 12:
                 note(4, path, text, at, f"fn {name}: {m[0].strip()}")
         if name in ('to_le_bytes', 'wrapping_mul_u64', 'side_numbered', 'same_bytes'):
@@ -68,13 +79,13 @@ for path, text in sources.items():
             note(5, path, text, at, f"fn {name}: {', '.join(tables)}")
         for m in re.finditer(r'requires \w* ?\{(.*?)\}\n', clauses + '\n', re.S):
             required[' '.join(m[1].split())].append((path, at, name))
-        group = tuple(p for p in re.findall(r'(\w+): &(?:mut )?\[', parameters) if p not in ('file', 'places', 'lefts', 'rights', 'prefixes', 'area', 'text', 'out', 'work', 'bytes'))
+        group = tuple(p for p in re.findall(r'(\w+): &(?:mut )?\[', parameters) if p not in ALONE)
         if len(group) > 2:
             together[group].append((path, at, name))
         for m in re.finditer(r'\bfront(?:_numbers)?\(&?\w+, \w+\)', body):
             note(6, path, text, at, f"fn {name}: {m[0]}")
         if len(lines) > 2:
-            shape = re.sub(r'"[^"]*"|\b\w+\b', lambda w: w[0] if w[0] in ('if', 'while', 'for', 'return', 'match', 'let', 'mut') else '_', ' '.join(lines))
+            shape = re.sub(r'"[^"]*"|\b\w+\b', lambda w: w[0] if w[0] in WORDS else '_', ' '.join(lines))
             shapes[shape, len(kinds)].append((path, at, name))
     for m in re.finditer(r'^ *(?:pub )?struct (\w+)[^\n]*\{\n(.*?)^\}', text, re.M | re.S):
         if re.search(r'\blen: usize', m[2]) and re.search(r': (?:&\w* ?)?\[', m[2]):
@@ -82,7 +93,8 @@ for path, text in sources.items():
 for shape, found in shapes.items():
     if len(found) > 1:
         for path, at, name in found:
-            note(2, path, sources[path], at, f"fn {name}: the shape of {', '.join(f[2] for f in found if f[2] != name or f[0] != path)}")
+            others = ', '.join(f[2] for f in found if f[2] != name or f[0] != path)
+            note(2, path, sources[path], at, f"fn {name}: the shape of {others}")
 for clause, found in required.items():
     if len(found) > 2:
         for path, at, name in found:

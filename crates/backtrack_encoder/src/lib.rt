@@ -3,7 +3,7 @@
 // document 01 wants output beyond the answer unchanged.
 #![tactic(auto)]
 
-ghost use Rattle.std.specs.Prelude.{◌≡◌, ◌<◌, ◌≤◌, length};
+ghost use Rattle.std.specs.Prelude.{◌≡◌, ◌++◌, ◌<◌, ◌≤◌, length, take, drop};
 ghost use Rattle.marks.specs.Layout.{area_size};
 ghost use Rattle.tables.specs.Tables.{given, pair_given};
 ghost use Rattle.tables.specs.Ready.{PlacesReady, PartsReady};
@@ -138,7 +138,7 @@ fn take_back(
     ensures { TakenBack rows.now.file.now rows.now.n text.now encoder work.now
         alive.old.words result alive.new.words }
 {
-    alive.clear(encoder.pos);
+    alive.clear_bit(encoder.pos);
     if encoder.count == 0 {
         return BacktrackEncoder {
             count: 0,
@@ -196,6 +196,18 @@ pub fn backtrack(tables: &RowTables<'_>, text: &[u8], work: &mut [u32]) -> usize
     encoder.count
 }
 
+// Copies the first `count` codes to the front of the output.
+// Kept: C interface: std's copy_from_slice needs memmove from outside the archive, which a caller in C did not need
+// before.
+fn copy_codes(codes: &[u32], count: usize, out: &mut [u32])
+    requires { (count ≤ length codes.now) × (count ≤ length out.old) }
+    ensures { out.new ≡ take count codes.now ++ drop count out.old }
+{
+    for i in 0..count {
+        out[i] = codes[i];
+    }
+}
+
 // The codes of a text, into the front of the output, and how many.
 pub fn encode_via_backtracking_core(
     tables: &RowTables<'_>,
@@ -208,7 +220,7 @@ pub fn encode_via_backtracking_core(
         result out.new work.new }
 {
     let count = backtrack(tables, text, work);
-    out[..count].copy_from_slice(&work[..count]);
+    copy_codes(work, count, out);
     count
 }
 

@@ -1,5 +1,6 @@
 // The bit set of the source's bitfield.rs: 4,097 bits, all set at first; bit p is bit p % 64 of word p / 64. Its
-// methods copy no words.
+// methods copy no words, but for `clear`, which takes the bit set by value, as document 01 has it, and copies its 520
+// bytes; the encoders call `clear_bit`, which changes the bit set where it stands.
 #![tactic(auto)]
 
 ghost use Rattle.std.specs.Prelude.{◌≡◌, suc, ◌-◌, ◌<◌};
@@ -56,12 +57,20 @@ impl BitField {
     }
 
     // Clears a bit; one beyond the 4,097 leaves every word as it was.
-    pub fn clear(&mut self, bit: usize)
+    pub fn clear_bit(&mut self, bit: usize)
         ensures { Cleared self.old.words bit self.new.words }
     {
         if bit < 4097 {
             self.words[bit / 64] &= !(1 << (bit % 64));
         }
+    }
+
+    // The bit set without a bit; the one that it is called on stays as it was.
+    pub fn clear(mut self, bit: usize) -> Self
+        ensures { Cleared self.words bit result.words }
+    {
+        self.clear_bit(bit);
+        self
     }
 
     // The next set bit: the lowest from `bit` on.

@@ -2,7 +2,7 @@
 // decoding the list of its one code, so that both have one contract.
 #![tactic(auto)]
 
-ghost use Rattle.std.specs.Prelude.{◌≡◌, [], ◌∷◌, ◌<◌, length, nat_le, position};
+ghost use Rattle.std.specs.Prelude.{◌≡◌, [], ◌∷◌, ◌++◌, ◌<◌, length, take, drop, nat_le, position};
 ghost use Rattle.placed_rows.specs.Reading.{rows_of};
 ghost use Rattle.placed_rows.specs.Texts.{Begins};
 ghost use Rattle.theory.specs.Dictionary.{spell};
@@ -43,6 +43,18 @@ fn file_from<'a>(rows: &Rows<'a>, c: usize) -> &'a [u8]
     &rows.file[from..]
 }
 
+// Copies the first `count` bytes to the front of the output.
+// Kept: C interface: std's copy_from_slice of a length that is not known needs memmove from outside the archive, which
+// a caller in C did not need before.
+fn copy_bytes(source: &[u8], count: usize, out: &mut [u8])
+    requires { CopyReady source.now count out.old }
+    ensures { out.new ≡ take count source.now ++ drop count out.old }
+{
+    for j in 0..count {
+        out[j] = source[j];
+    }
+}
+
 // Copies the first `count` bytes to the front of the output. Where there is room it copies 16 bytes at once, so the
 // rest of the output may change too.
 fn copy_row(source: &[u8], count: usize, out: &mut [u8])
@@ -50,7 +62,7 @@ fn copy_row(source: &[u8], count: usize, out: &mut [u8])
     ensures { Copied source.now count out.old out.new }
 {
     if 16 < count || source.len() < 16 || out.len() < 16 {
-        out[..count].copy_from_slice(&source[..count]);
+        copy_bytes(source, count, out);
         return;
     }
     out[..16].copy_from_slice(&source[..16]);

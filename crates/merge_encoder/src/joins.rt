@@ -124,7 +124,7 @@ impl Joins {
             self.new codes.new }
     {
         codes[at] = row;
-        self.live.clear(next);
+        self.live.clear_bit(next);
         self.keys[next] = NONE;
         self.renew(tables, codes, at, after);
         if let Some(last) = last {

@@ -14,7 +14,7 @@ renew-requires c =
 pub returns-in_default : goal.returns-in_default
 returns-in_default c =
     let renewed = rw (length-set c.args.codes.now c.args.at c.args.row) at c.renew.ensures in
-    turned-first _ _ _ _ _ _ _ _ _ _ c.requires.state.0 c.requires.state.1 _ c.clear.ensures.bits _ _ refl refl
+    turned-first _ _ _ _ _ _ _ _ _ _ c.requires.state.0 c.requires.state.1 _ c.clear_bit.ensures.bits _ _ refl refl
     (longer_same _ _ refl refl refl) refl renewed (ap (λ o. unwrap_or o c.args.at) c.in_default.is)
 
 -- the key of the one before it is found anew too
@@ -24,7 +24,7 @@ renew-requires-in-Some c =
     let below = rw c.in-Some.is at c.requires.below in
     let renewed = rw (length-set c.args.codes.now c.args.at c.args.row) at c.renew.ensures in
     rw (length-set c.args.codes.now _ _) (
-      second-ready _ _ _ _ _ _ _ _ _ _ state.0 state.1 _ c.clear.ensures.bits _ _ refl refl (longer_same _ _ refl refl refl) refl renewed below.0,
+      second-ready _ _ _ _ _ _ _ _ _ _ state.0 state.1 _ c.clear_bit.ensures.bits _ _ refl refl (longer_same _ _ refl refl refl) refl renewed below.0,
       at_below _ _ _ _ _ _ _ _ _ _ state.0 state.1,
     )
 
@@ -35,4 +35,4 @@ returns-in-Some c =
     let renewed = rw (length-set c.args.codes.now c.args.at c.args.row) at c.renew.ensures in
     let renewed2 = rw (length-set c.args.codes.now c.args.at c.args.row) at c.renew-in-Some.ensures in
     rw c.in-Some.is
-    (turned-last _ _ _ _ _ _ _ _ _ _ state.0 state.1 _ c.clear.ensures.bits _ _ refl refl (longer_same _ _ refl refl refl) refl renewed below.0 _ renewed2)
+    (turned-last _ _ _ _ _ _ _ _ _ _ state.0 state.1 _ c.clear_bit.ensures.bits _ _ refl refl (longer_same _ _ refl refl refl) refl renewed below.0 _ renewed2)

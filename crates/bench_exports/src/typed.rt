@@ -7,7 +7,7 @@ ghost use Rattle.typing_columns.specs.Columns.{ExtendedColumns};
 ghost use Rattle.bench_exports.specs.Core.{Answers};
 
 use tables::Tables;
-use typing_columns::{Columns, Side};
+use typing_columns::Side;
 
 // Types the bytes, each at the end (side 0) or each at the front; the number of bytes typed, or the place of a refusal.
 // Kept: C interface: the benchmark calls it by this name, with these slices.
@@ -38,14 +38,15 @@ pub extern "C" fn measured_extend<'a>(
         prefixes,
         area,
     };
-    let mut columns = Columns {
-        bytes: *bytes,
-        codes: *codes,
-        counts: *counts,
-    };
-    let answer = columns.extend(&tables, Side::from(side), 0, 4096, typed);
-    *bytes = columns.bytes;
-    *codes = columns.codes;
-    *counts = columns.counts;
+    let answer = typing_columns::extend_columns(
+        &tables,
+        Side::from(side),
+        0,
+        4096,
+        bytes,
+        codes,
+        counts,
+        typed,
+    );
     causes::answer_place(answer)
 }

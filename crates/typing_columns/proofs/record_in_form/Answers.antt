@@ -1,7 +1,7 @@
 -- Each test of a record in form decides one answer (proofs/Recording.antt). Assumes nothing.
 use mathlib.Core.Path.{sym, ◌∙◌}
 use Rattle.typing_columns.proofs.Recording.{record_unknown, record_other, record_apart, record_counted}
-use Rattle.typing_columns.proofs.Columns.record_in_form.Goals as goal
+use Rattle.typing_columns.proofs.record_in_form.Goals as goal
 
 pub returns-then-tables-code : goal.returns-then-tables-code
 returns-then-tables-code c = record_unknown _ _ _ _ _ _ _ _ c.requires c.if-tables-code.true

@@ -1,6 +1,6 @@
 -- The loop's invariant: the records below i are in form. Assumes nothing.
 use Rattle.typing_columns.proofs.Recording.{records-start, records_fail, records-more}
-use Rattle.typing_columns.proofs.Columns.records_in_form.Goals as goal
+use Rattle.typing_columns.proofs.records_in_form.Goals as goal
 
 pub loop-i-init : goal.loop-i-init
 loop-i-init c = records-start _ _ _ _ _ _ _ _ c.requires

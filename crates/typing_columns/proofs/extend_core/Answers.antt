@@ -1,6 +1,6 @@
 -- The loop's invariant: k of the bytes are typed. Assumes nothing.
 use Rattle.typing_columns.proofs.Pushing.{extending_start, extending_end, extending_more}
-use Rattle.typing_columns.proofs.Columns.extend_core.Goals as goal
+use Rattle.typing_columns.proofs.extend_core.Goals as goal
 
 pub loop-k-init : goal.loop-k-init
 loop-k-init c = extending_start _ _ _ _ _ _ _ _ c.requires

@@ -2,15 +2,6 @@
 use bitfield::BitField;
 use std::io;
 
-// The bit set with all bits set but these.
-fn all_but(places: &[usize]) -> BitField {
-    let mut set = BitField::new();
-    for place in places {
-        set.clear(*place);
-    }
-    set
-}
-
 // Each of the 4,097 bits is set at first.
 fn all_set() -> bool {
     let set = BitField::new();
@@ -19,7 +10,7 @@ fn all_set() -> bool {
 
 // Bit 4,096 is the last; clearing one beyond it changes nothing.
 fn beyond() -> bool {
-    let set = all_but(&[4097, usize::MAX]);
+    let set = BitField::new().clear(4097).clear(usize::MAX);
     set.is_set(4096)
         && !set.is_set(4097)
         && !set.is_set(usize::MAX)
@@ -29,18 +20,19 @@ fn beyond() -> bool {
 
 // A bit stays clear when it is cleared twice, and its neighbours stay set.
 fn clear() -> bool {
-    let mut set = all_but(&[64]);
-    let once = !set.is_set(64);
-    set.clear(64);
-    let twice = !set.is_set(64) && set.is_set(63) && set.is_set(65);
-    set.clear(4096);
-    once && twice && !set.is_set(4096)
+    let once = BitField::new().clear(64);
+    let twice = once.clear(64);
+    !once.is_set(64)
+        && !twice.is_set(64)
+        && twice.is_set(63)
+        && twice.is_set(65)
+        && !twice.clear(4096).is_set(4096)
 }
 
 // The next set bit: the place itself, over the seams of the words, and none.
 fn successor() -> bool {
-    let set = all_but(&[63, 4095]);
-    let none = all_but(&[63, 4095, 4096]);
+    let set = BitField::new().clear(63).clear(4095);
+    let none = set.clear(4096);
     set.successor(62) == Some(62)
         && set.successor(63) == Some(64)
         && set.successor(4095) == Some(4096)
@@ -51,8 +43,8 @@ fn successor() -> bool {
 
 // The last set bit: the place itself, over the seams of the words, and none.
 fn predecessor() -> bool {
-    let set = all_but(&[64, 4096]);
-    let none = all_but(&[0]);
+    let set = BitField::new().clear(64).clear(4096);
+    let none = BitField::new().clear(0);
     set.predecessor(63) == Some(63)
         && set.predecessor(64) == Some(63)
         && set.predecessor(4096) == Some(4095)

@@ -10,6 +10,6 @@ use std::io;
 
 fn main(rt: HostRuntime) -> io::Result<()> {
     bits::work_through(&rt)?;
-    published::work_through(&rt, rt.stdin())?;
+    published::work_through(&rt, &mut rt.stdin())?;
     vectors::work_through(&rt)
 }

@@ -7,10 +7,11 @@ use fnv::{OFFSET, fnv1a};
 use std::alloc::{AllocError, Global};
 use std::io;
 use std::io::Read;
+use tool_io::read_full;
 use words::number;
 
 // How much of the list is read, in bytes.
-const ROOM: u64 = 16384;
+const ROOM: usize = 16384;
 
 // What a line of the list is.
 #[derive(Clone, Copy, PartialEq, Eq)]
@@ -111,13 +112,14 @@ fn count(kinds: &[Kind], kind: Kind) -> usize {
 // Works through the lines of the list. Of a list that fills the room for it there may be more.
 pub(crate) fn work_through<R: Print + AllocGlobal>(
     rt: &R,
-    input: impl Read + Drop,
+    input: &mut impl Read,
 ) -> io::Result<()> {
-    let mut list = Vec::new(rt.alloc());
-    let size = input.take(ROOM).read_to_end(&mut list)?;
-    if size as u64 == ROOM {
+    let mut list = vec![in rt.alloc(); 0; ROOM]?;
+    let size = read_full(input, &mut list)?;
+    if size == ROOM {
         println!(rt; "more than there is room for")?;
     }
+    list.truncate(size);
     let mut kinds = Vec::new(rt.alloc());
     for line in list.split_inclusive(|byte| *byte == b'\n') {
         let kind = judge(rt.alloc(), line.strip_suffix(b"\n").unwrap_or(line))?;

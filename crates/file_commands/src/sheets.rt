@@ -60,10 +60,10 @@ pub fn make_phrase_file<R: Files + Print + AllocGlobal>(
         }
     };
     file.truncate(made.size);
-    if let Err(error) = write_named(rt, out, &file) {
+    let mut dictionary = Dictionary::new(rt.alloc(), file)?;
+    if let Err(error) = write_named(rt, out, &dictionary.file) {
         return Err(file_error(rt, "OUT", out, &error));
     }
-    let mut dictionary = Dictionary::new(rt.alloc(), file)?;
     say_made(rt, out, made.rows, &mut dictionary)?;
     Ok(())
 }

@@ -14,6 +14,9 @@ fn command_line(rt: &(impl Env + AllocGlobal)) -> Result<Vec<u8>, AllocError> {
     let mut line = Vec::new(rt.alloc());
     let mut argument = [0u8; 4096];
     for i in 1..usize::MAX {
+        if 16384 <= line.len() {
+            break;
+        }
         match rt.arg(i, &mut argument) {
             Ok(size) => line.extend_from_slice(front(&argument, size))?,
             Err(FillError::TooLong) => {}

@@ -9,6 +9,7 @@ use std::io::{Read, Write};
 use std::rt::Files;
 use std::{fs, io};
 use text_forms::unescape;
+use tool_io::read_full;
 use words::{back, count_before, front, number};
 
 // What stands before the first byte of this value, and what follows it.
@@ -71,11 +72,10 @@ fn write(rt: &(impl Files + AllocGlobal), arguments: &[u8]) -> io::Result<()> {
 
 // `print NAME`: at most 131,072 bytes.
 fn print(rt: &(impl Files + Print + AllocGlobal), name: &[u8]) -> io::Result<()> {
-    let mut bytes = Vec::new(rt.alloc());
-    fs::open(rt, path_of(name))?
-        .take(131072)
-        .read_to_end(&mut bytes)?;
-    rt.write_all(&bytes)
+    let mut bytes = vec![in rt.alloc(); 0; 131072]?;
+    let mut file = fs::open(rt, path_of(name))?;
+    let size = read_full(&mut file, &mut bytes)?;
+    rt.write_all(front(&bytes, size))
 }
 
 // The system's error for a file that is not open.
@@ -123,9 +123,9 @@ fn obey<R: Files + Print + AllocGlobal>(rt: &R, line: &[u8], each: bool) -> io::
 }
 
 fn main(rt: HostRuntime) -> io::Result<()> {
-    let mut input = Vec::new(rt.alloc());
-    rt.stdin().take(65536).read_to_end(&mut input)?;
-    let mut left = input.as_slice();
+    let mut input = vec![in rt.alloc(); 0; 65536]?;
+    let size = read_full(&mut rt.stdin(), &mut input)?;
+    let mut left = front(&input, size);
     let mut each = false;
     while !left.is_empty() {
         let (line, rest) = split_at_byte(left, b'\n');

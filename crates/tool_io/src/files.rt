@@ -1,6 +1,7 @@
 // Files by name: reading a whole one and writing a whole one. The system's calls take a name as text, so one that is
 // not UTF-8 is no name of a file.
 ghost use Rattle.std.specs.Prelude.{◌≤◌, IfOk, vec_len};
+ghost use Rattle.std.specs.Io.{ReadsAtMost};
 
 use std::alloc::{AllocError, Global};
 use std::fs::{OpenFile, OpenOptions, Permissions};
@@ -32,17 +33,32 @@ fn path_of(name: &[u8]) -> io::Result<&str> {
     }
 }
 
-// All that an input gives, if it is no more than `most` bytes: one byte more tells the end from a longer input.
+// Reads until the buffer is full or the input ends, and gives how many bytes stand at the front of the buffer.
+pub fn read_full(input: &mut impl Read, buffer: &mut [u8]) -> io::Result<usize>
+    ensures { ReadsAtMost result buffer.new }
+{
+    let mut size = 0;
+    while size < buffer.len() {
+        let got = input.read(&mut buffer[size..])?;
+        if got == 0 {
+            return Ok(size);
+        }
+        size += got;
+    }
+    Ok(size)
+}
+
+// All that an input gives, if it is no more than `most` bytes. Where there are so many, one more read tells the end
+// from a longer input.
 fn read_all(alloc: Global, input: &mut impl Read, most: usize) -> Result<Vec<u8>, ReadError>
     ensures { IfOk result (λ bytes. vec_len bytes ≤ most) }
 {
-    let mut bytes = Vec::new(alloc);
-    input
-        .take((most as u64).saturating_add(1))
-        .read_to_end(&mut bytes)?;
-    if bytes.len() > most {
+    let mut bytes = vec![in alloc; 0; most].map_err(io::Error::from)?;
+    let size = read_full(input, &mut bytes)?;
+    if size == most && read_full(input, &mut [0])? != 0 {
         return Err(ReadError::Over);
     }
+    bytes.truncate(size);
     Ok(bytes)
 }
 
@@ -127,12 +143,20 @@ fn write_temporary<R: Files>(
     written
 }
 
-// Writes a file by way of the first temporary name that is free: the file's with a dot and six digits.
-fn write_through(rt: &(impl Files + AllocGlobal), path: &str, bytes: &[u8]) -> io::Result<()> {
+// A temporary name, put at the front of a buffer: the file's with a dot and six digits.
+fn put_temporary<'a>(buffer: &'a mut [u8], path: &str, n: u32) -> io::Result<&'a str> {
+    let mut room = &mut buffer[..];
+    write!(room, "{path}.{n:06}")?;
+    path_of(buffer.get(..path.len() + 7).unwrap_or(&[]))
+}
+
+// Writes a file by way of the first temporary name that is free.
+fn write_through(rt: &impl Files, path: &str, bytes: &[u8]) -> io::Result<()> {
+    let mut buffer = [0; 4096];
     for n in 0..TRIES {
-        let temporary = format!(in rt.alloc(); "{path}.{n:06}")?;
-        match create_temporary(rt, temporary.as_str()) {
-            Ok(file) => return write_temporary(rt, file, temporary.as_str(), path, bytes),
+        let temporary = put_temporary(&mut buffer, path, n)?;
+        match create_temporary(rt, temporary) {
+            Ok(file) => return write_temporary(rt, file, temporary, path, bytes),
             Err(error) if error.kind() == ErrorKind::AlreadyExists => {}
             Err(error) => return Err(error),
         }
@@ -141,7 +165,7 @@ fn write_through(rt: &(impl Files + AllocGlobal), path: &str, bytes: &[u8]) -> i
 }
 
 // Writes a file: whole, or not at all.
-pub fn write_named(rt: &(impl Files + AllocGlobal), name: &[u8], bytes: &[u8]) -> io::Result<()> {
+pub fn write_named(rt: &impl Files, name: &[u8], bytes: &[u8]) -> io::Result<()> {
     if name.starts_with(b"/dev/") {
         return write_device(rt, path_of(name)?, bytes);
     }

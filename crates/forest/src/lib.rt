@@ -91,6 +91,7 @@ fn may_have_child(area: &[u32], p: u32, b: u8) -> bool
 
 // Is w the word of a row whose prefix is p, of len bytes, and that goes on as the text from at on does? The bucket is
 // that of p and the byte there, so that a word with this byte has p as its prefix.
+#[inline(always)]
 fn fits(rows: &Rows<'_>, w: u32, p: u32, len: usize, text: &[u8], at: usize) -> bool
     requires row { w % 8192 < rows.now.n }
     requires inside { at < length text.now }
@@ -129,6 +130,7 @@ fn is_one_longer(w: u32, b: u8) -> bool
 
 // The child of p, of len bytes, that goes on as the text from at on does, among the rows of its bucket, whose first
 // word is given, or NONE.
+#[inline(always)]
 fn listed_child(
     rows: &Rows<'_>,
     area: &[u32],
@@ -164,6 +166,7 @@ fn listed_child(
 }
 
 // The same child. A row that is one byte longer, and first in its bucket, is told by its word alone.
+#[inline(always)]
 fn bucket_child(
     rows: &Rows<'_>,
     area: &[u32],

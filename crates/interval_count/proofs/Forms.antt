@@ -1,13 +1,14 @@
 -- Interval tables in form: the passes over their entries, and what they say. Assumes nothing.
-use mathlib.Core.Path.{◌≡◌, refl}
+use mathlib.Core.Path.{◌≡◌, refl, sym, ap, ◌∙◌}
 use mathlib.Core.List.{List}
-use mathlib.Core.Bool.{Bool, true, false, and-false}
+use mathlib.Core.Bool.{Bool, true, false, and-false, ◌&&◌}
 use Prim.Native.Nat.{ℕ, ◌+◌, ◌≤◌, ◌<◌}
+use native.Mathlib.Numerals.{add-one}
 use native.Mathlib.Omega.{arith}
 use lib.ListN.{length, get_or}
 use lib.Dec.{ltb, leb}
 use borrow.Author.Tests.{lt-ltb, le-ltb, le-leb, lt-leb, leb-true}
-use Rattle.placed_rows.proofs.Beginning.{and_both}
+use Rattle.placed_rows.proofs.Beginning.{and_both, iff}
 use Rattle.tables.specs.InForm.{all_below}
 use Rattle.tables.proofs.Sweeps.{all_more, all-each, all_done, all-fails}
 use Rattle.built_tables.specs.IntervalTables.{codes_in_form, tree_in_form, interval_in_form}
@@ -19,6 +20,16 @@ below_n n codes i = ltb (get_or codes i 0) n
 -- no entry of a tree table exceeds the text's length + 1
 abbrev fits : List ℕ → List ℕ → ℕ → Bool
 fits text table i = leb (get_or table i 0) (length text + 1)
+
+-- of two numbers the greater one decides whether both are at most m
+both-leb : (a b m : ℕ) → a ≤ b → leb a m && leb b m ≡ leb b m
+both-leb a b m l = iff (leb a m && leb b m) (leb b m) (λ e. (and_both (leb a m) (leb b m) e).1) (λ e. let f = leb-true b m e in rw (le-leb a m (omega arith)) e)
+
+and-swap : (p q : Bool) → p && q ≡ q && p
+and-swap true true = refl
+and-swap true false = refl
+and-swap false true = refl
+and-swap false false = refl
 
 module _ (n : ℕ) (text codes : List ℕ) where
   pub codes-short : length codes < length text → false ≡ codes_in_form n text codes
@@ -53,28 +64,46 @@ module _ (text table : List ℕ) where
   unfolding tree_in_form
   tree_short h = rw (lt-leb (length text + 1) (length table) (omega arith))
 
-  -- the first i entries fit
-  pub record Fitting (i : ℕ) : Type 0 where
+  -- the first i entries fit exactly if the highest of them does
+  pub record Fitting (i highest : ℕ) : Type 0 where
     pub room : length text < length table
     pub within : i ≤ length text + 1
-    pub passed : all_below i (fits text table) ≡ true
+    pub passed : all_below i (fits text table) ≡ leb highest (length text + 1)
 
-  pub fitting_start : length text < length table → Fitting 0
+  pub fitting_start : length text < length table → Fitting 0 0
   unfolding all_below
-  fitting_start h = record { room = h; within = omega arith; passed = refl }
+  fitting_start h = record { room = h; within = omega arith; passed = sym (le-leb 0 (length text + 1) (omega arith)) }
 
-  module _ (i : ℕ) (S : Fitting i) where
-    pub fitting_end : length text + 1 ≤ i → true ≡ tree_in_form text table
+  module _ (i highest : ℕ) (S : Fitting i highest) where
+    whole : length text + 1 ≤ i → all_below (length text + 1) (fits text table) ≡ leb highest (length text + 1)
+    whole h = let w = S.within in let z : length text + 1 ≡ i = omega arith in ap (λ (k : ℕ). all_below k (fits text table)) z ∙ S.passed
+
+    pub fitting_end : length text + 1 ≤ i → highest ≤ length text + 1 → true ≡ tree_in_form text table
     unfolding tree_in_form
-    fitting_end h = rw (le-leb (length text + 1) (length table) (omega (arith, S.room))) (all_done (fits text table) (length text + 1) i S.within h S.passed)
+    fitting_end h l = rw (le-leb (length text + 1) (length table) (omega (arith, S.room))) (sym (whole h ∙ le-leb highest (length text + 1) l))
 
-    module _ (h : i < length text + 1) (x : ℕ) (e : x ≡ get_or table i 0) where
-      pub fitting_fails : length text + 1 < x → false ≡ tree_in_form text table
-      unfolding tree_in_form
-      fitting_fails l = rw (← all-fails (fits text table) (length text + 1) i h (lt-leb (get_or table i 0) (length text + 1) (omega arith)), and-false)
+    pub fitting_fails : length text + 1 ≤ i → length text + 1 < highest → false ≡ tree_in_form text table
+    unfolding tree_in_form
+    fitting_fails h l = rw (le-leb (length text + 1) (length table) (omega (arith, S.room))) (sym (whole h ∙ lt-leb highest (length text + 1) l))
 
-      pub fitting_more : x ≤ length text + 1 → Fitting (i + 1)
-      fitting_more l = record { room = S.room; within = omega arith; passed = all_more (fits text table) i S.passed (le-leb (get_or table i 0) (length text + 1) (omega arith)) }
+    module _ (h : i < length text + 1) where
+      longer : (r : Bool) → leb highest (length text + 1) && fits text table i ≡ r → all_below (i + 1) (fits text table) ≡ r
+      unfolding all_below
+      longer r e = rw add-one (rw S.passed e)
+
+      pub fitting_higher : highest < get_or table i 0 → Fitting (i + 1) (get_or table i 0)
+      fitting_higher l = record {
+        room = S.room;
+        within = omega arith;
+        passed = longer (leb (get_or table i 0) (length text + 1)) (both-leb highest (get_or table i 0) (length text + 1) (omega arith));
+      }
+
+      pub fitting_lower : get_or table i 0 ≤ highest → Fitting (i + 1) highest
+      fitting_lower l = record {
+        room = S.room;
+        within = omega arith;
+        passed = longer (leb highest (length text + 1)) (and-swap (leb highest (length text + 1)) (leb (get_or table i 0) (length text + 1)) ∙ both-leb (get_or table i 0) highest (length text + 1) l);
+      }
 
 module _ (n : ℕ) (text codes numbers ends depths : List ℕ) where
   pub codes_out : codes_in_form n text codes ≡ false → false ≡ interval_in_form n text codes numbers ends depths

@@ -26,7 +26,8 @@ pub struct IntervalTables<'a> {
     pub depths: &'a [u32],
 }
 
-// Whether a tree table has one entry more, none above the text's length + 1.
+// Whether a tree table has one entry more, none above the text's length + 1. The highest one is looked for to the end of
+// the table: without an exit on the way several entries are compared at once.
 fn tree_in_form(text: &[u8], table: &[u32]) -> bool
     ensures { result ≡ tree_in_form text.now table.now }
 {
@@ -34,10 +35,15 @@ fn tree_in_form(text: &[u8], table: &[u32]) -> bool
         return false;
     }
     let most = text.len() + 1;
+    let mut highest = 0;
     for i in 0..most {
-        if most < table[i] as usize {
-            return false;
+        let entry = table[i];
+        if highest < entry {
+            highest = entry;
         }
+    }
+    if most < highest as usize {
+        return false;
     }
     true
 }

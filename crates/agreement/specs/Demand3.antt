@@ -45,7 +45,7 @@ module _ (T : Tables) (n : ℕ) where
     pub typing : (side : Side) (m : Lent) → m.len ≡ 0 → (events : List Event) → OctetCalls events
         → Run T side m events → AllAsTheBook T side [] (length m.states) m events
     -- 4. "every interval count is the merge procedure's for its piece". `interval_prepare::prepare` ensures `Prepares`,
-    -- `interval_count::count` ensures `Interval.Counts`
+    -- `interval_count::IntervalTables::count` ensures `Interval.Counts`
     pub intervals : (text codes numbers ends depths work codes' numbers' ends' depths' work' : List ℕ) (m : ℕ)
         → Prepares T text codes numbers ends depths work codes' numbers' ends' depths' work' (Ok m)
         → (from to : ℕ) (scratch scratch' : List ℕ) (r : Result ℕ Cause)

@@ -2,13 +2,14 @@
 use mathlib.Core.Path.{◌≡◌, refl, sym, ap, ◌∙◌}
 use mathlib.Core.List.{List, [], ◌∷◌, ◌++◌, append_assoc, append-nil}
 use mathlib.Core.Bool.{Bool, true, false, ◌&&◌}
-use Prim.Native.Nat.{ℕ, ◌≤◌, ◌<◌}
+use Prim.Native.Nat.{ℕ, ◌+◌, ◌≤◌, ◌<◌}
+use native.Mathlib.Numerals.{add-one}
 use native.Mathlib.Omega.{arith}
-use lib.ListN.{length, length-append, get_or, drop, take}
-use lib.Seq.{drop-append_seam}
+use lib.ListN.{length, length-append, get_or, drop, drop_of_length-le, take}
+use lib.Seq.{drop-cons, drop-append_seam}
 use lib.Dec.{eqb}
 use lib.Pointwise.{pointwise}
-use borrow.Author.Tests.{eq-eqb, eqb-true}
+use borrow.Author.Tests.{eq-eqb, ne_eqb, eqb-true}
 use Rattle.placed_rows.specs.Texts.{Begins, begins}
 
 pub true-false : true ≡ false → ⊥
@@ -49,6 +50,24 @@ split-begins p t b = rw b.split (begins-append p b.rest)
 
 pub begins-length : (p t : List ℕ) → Begins p t → length p ≤ length t
 begins-length p t b = omega (arith, ap length b.split, length-append p b.rest)
+
+pub begins-long : (p t : List ℕ) → length t < length p → begins p t ≡ false
+begins-long p t h = no_true (begins p t) (λ e. let k = begins-length p t (begins-split p t e) in omega arith)
+
+-- the test, byte by byte
+pub begins-more : (p t : List ℕ) (j : ℕ) → j < length p → j < length t → get_or p j 0 ≡ get_or t j 0
+    → begins (drop j p) (drop j t) ≡ begins (drop (j + 1) p) (drop (j + 1) t)
+unfolding begins
+begins-more p t j h k e = rw (add-one, drop-cons p j 0 h, drop-cons t j 0 k) (rw (eq-eqb (get_or p j 0) (get_or t j 0) e))
+
+pub begins_miss : (p t : List ℕ) (j : ℕ) → j < length p → j < length t → (get_or p j 0 ≡ get_or t j 0 → ⊥)
+    → begins (drop j p) (drop j t) ≡ false
+unfolding begins
+begins_miss p t j h k e = rw (drop-cons p j 0 h, drop-cons t j 0 k) (rw (ne_eqb (get_or p j 0) (get_or t j 0) e))
+
+pub begins-end : (p t : List ℕ) (j : ℕ) → length p ≤ j → begins (drop j p) t ≡ true
+unfolding begins
+begins-end p t j h = rw (drop_of_length-le p {i = j} h)
 
 -- the library's test of the slice that p begins
 pub begins-pointwise : (p t : List ℕ) → pointwise eqb p (take (length p) t) ≡ begins p t

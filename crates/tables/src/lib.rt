@@ -19,7 +19,6 @@ pub use row_tables::RowTables;
 pub use tables::Tables;
 
 // Whether the places match the file; if so, sizes gets the lengths of the rows.
-#[inline(always)]
 fn places_match(tables: &Tables<'_>, n: usize, sizes: &mut [u8; 4096]) -> bool
     requires { Passed tables.now.file.now tables.now.places.now n sizes.old }
     ensures { PlacesMatch tables.now.file.now tables.now.places.now n sizes.new result }
@@ -77,7 +76,6 @@ fn parts_in_form(sizes: &[u8; 4096], i: usize, l: u32, r: u32) -> bool
 }
 
 // Whether prefix and parts of each row are in form.
-#[inline(always)]
 fn rows_fit(sizes: &[u8; 4096], tables: &Tables<'_>, n: usize) -> bool
     requires { let t = tables.now in Room n t.lefts.now t.rights.now t.prefixes.now }
     ensures { let t = tables.now in result ≡ all_below n (row_in_form n (sized sizes.now)

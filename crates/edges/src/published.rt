@@ -4,22 +4,43 @@
 ghost use Rattle.std.specs.Prelude.{◌<◌, IfSome};
 
 use fnv::{OFFSET, fnv1a};
-use std::alloc::{AllocError, Global};
 use std::io;
 use std::io::Read;
 use tool_io::read_full;
-use words::number;
+use words::{front, number};
 
 // How much of the list is read, in bytes.
 const ROOM: usize = 16384;
 
 // What a line of the list is.
-#[derive(Clone, Copy, PartialEq, Eq)]
+#[derive(Clone, Copy)]
 enum Kind {
     Comment,
     Right,
     Wrong,
     Malformed,
+}
+
+// How many lines there were, and how many of each kind but comments.
+#[derive(Default, Drop)]
+struct Tally {
+    lines: u64,
+    right: u64,
+    wrong: u64,
+    malformed: u64,
+}
+
+impl Tally {
+    // Counts a line.
+    fn count(&mut self, kind: Kind) {
+        self.lines = self.lines.saturating_add(1);
+        match kind {
+            Kind::Comment => {}
+            Kind::Right => self.right = self.right.saturating_add(1),
+            Kind::Wrong => self.wrong = self.wrong.saturating_add(1),
+            Kind::Malformed => self.malformed = self.malformed.saturating_add(1),
+        }
+    }
 }
 
 // The value of a hex digit, small letters.
@@ -53,50 +74,52 @@ fn hex_octet(word: &[u8]) -> Option<u8> {
     Some(digit(*high)? * 16 + digit(*low)?)
 }
 
-// The octets that a word writes, two digits each: at most 128 of them, and `-` for none.
-fn octets_of(alloc: Global, word: &[u8]) -> Result<Option<Vec<u8>>, AllocError> {
-    let mut octets = Vec::new(alloc);
+// The octets that a word writes, two digits each, put into the room: at most 128 of them, and `-` for none.
+fn octets_of<'a>(word: &[u8], room: &'a mut [u8; 128]) -> Option<&'a [u8]> {
     if word == b"-".as_slice() {
-        return Ok(Some(octets));
+        return Some(&[]);
     }
     if word.is_empty() || word.len() > 256 {
-        return Ok(None);
+        return None;
     }
-    for pair in word.chunks(2) {
-        let Some(octet) = hex_octet(pair) else {
-            return Ok(None);
-        };
-        octets.push(octet)?;
+    for (octet, pair) in room.iter_mut().zip(word.chunks(2)) {
+        *octet = hex_octet(pair)?;
     }
-    Ok(Some(octets))
+    room.get(..word.len() / 2)
+}
+
+// The hash of the octets, so many times. Not inlined, so that the count of the times stays in a register.
+#[inline(never)]
+fn hash_again(times: u64, octets: &[u8]) -> u64 {
+    (0..times).fold(OFFSET, |hash, _| fnv1a(hash, octets))
 }
 
 // What a line is: whether the hash of the octets of a vector, so many times, is the published value.
-fn judge(alloc: Global, line: &[u8]) -> Result<Kind, AllocError> {
+fn judge(line: &[u8]) -> Kind {
     if line.starts_with(b"#") {
-        return Ok(Kind::Comment);
+        return Kind::Comment;
     }
     let mut words = line.splitn(3, |byte| *byte == b' ');
     let (Some(times), Some(octets), Some(value)) = (words.next(), words.next(), words.next()) else {
-        return Ok(Kind::Malformed);
+        return Kind::Malformed;
     };
+    let mut room = [0; 128];
     let (Some(times), Some(octets), Some(value)) = (
         number(times),
-        octets_of(alloc, octets)?,
+        octets_of(octets, &mut room),
         hex_number(value),
     ) else {
-        return Ok(Kind::Malformed);
+        return Kind::Malformed;
     };
-    let hash = (0..times).fold(OFFSET, |hash, _| fnv1a(hash, &octets));
-    Ok(if hash == value {
+    if hash_again(times, octets) == value {
         Kind::Right
     } else {
         Kind::Wrong
-    })
+    }
 }
 
 // Tells a line that is not as it must be.
-fn tell(rt: &impl Print, line: usize, kind: Kind) -> io::Result<()> {
+fn tell(rt: &impl Print, line: u64, kind: Kind) -> io::Result<()> {
     match kind {
         Kind::Comment | Kind::Right => Ok(()),
         Kind::Wrong => println!(rt; "line {line}: WRONG"),
@@ -104,30 +127,23 @@ fn tell(rt: &impl Print, line: usize, kind: Kind) -> io::Result<()> {
     }
 }
 
-// How many lines there are of a kind.
-fn count(kinds: &[Kind], kind: Kind) -> usize {
-    kinds.iter().filter(|other| **other == kind).count()
-}
-
-// Works through the lines of the list. Of a list that fills the room for it there may be more.
-pub(crate) fn work_through<R: Print + AllocGlobal>(
-    rt: &R,
-    input: &mut impl Read,
-) -> io::Result<()> {
-    let mut list = vec![in rt.alloc(); 0; ROOM]?;
+// Works through the lines of the list. Of a list that fills the room for it there may be more. Not inlined: the room
+// takes stack only while this runs.
+#[inline(never)]
+pub(crate) fn work_through(rt: &impl Print, input: &mut impl Read) -> io::Result<()> {
+    let mut list = [0; ROOM];
+    let mut tally = Tally::default();
     let size = read_full(input, &mut list)?;
     if size == ROOM {
         println!(rt; "more than there is room for")?;
     }
-    list.truncate(size);
-    let mut kinds = Vec::new(rt.alloc());
-    for line in list.split_inclusive(|byte| *byte == b'\n') {
-        let kind = judge(rt.alloc(), line.strip_suffix(b"\n").unwrap_or(line))?;
-        kinds.push(kind)?;
-        tell(rt, kinds.len(), kind)?;
+    for line in front(&list, size).split_inclusive(|byte| *byte == b'\n') {
+        let kind = judge(line.strip_suffix(b"\n").unwrap_or(line));
+        tally.count(kind);
+        tell(rt, tally.lines, kind)?;
     }
-    let right = count(&kinds, Kind::Right);
-    let wrong = count(&kinds, Kind::Wrong);
-    let malformed = count(&kinds, Kind::Malformed);
+    let right = tally.right;
+    let wrong = tally.wrong;
+    let malformed = tally.malformed;
     println!(rt; "{right} vectors as published, {wrong} WRONG, {malformed} malformed")
 }

@@ -26,14 +26,11 @@ fn factor_of(rt: &impl Print, factor: Option<&[u8]>) -> Result<u64, Stop> {
 }
 
 // The command.
-pub fn check<R: Files + Print + AllocGlobal>(
-    rt: &R,
-    name: &[u8],
-    factor: Option<&[u8]>,
-) -> Result<(), Stop> {
+pub fn check(rt: &(impl Files + Print), name: &[u8], factor: Option<&[u8]>) -> Result<(), Stop> {
     let factor = factor_of(rt, factor)?;
-    let mut dictionary = Dictionary::new(rt.alloc(), read_file(rt, name)?)?;
+    let mut dictionary = Dictionary::blank();
+    read_file(rt, name, &mut dictionary)?;
     let rows = build(rt, name, &mut dictionary, factor)?;
-    say_accepted(rt, &dictionary.file, rows)?;
+    say_accepted(rt, dictionary.file(), rows)?;
     Ok(())
 }

@@ -1,49 +1,67 @@
 // From the name of a phrase file to its tables, for all commands.
-ghost use Rattle.std.specs.Prelude.{◌≡◌, ◌≤◌, IfOk, OnOk, vec_len};
-ghost use Rattle.file_commands.specs.Loading.{Loads};
+ghost use Rattle.std.specs.Prelude.{◌≡◌, ◌≤◌, length, take, OnOk};
+ghost use Rattle.file_commands.specs.Loading.{Loads, Kept};
 
 use causes::Cause;
-use std::alloc::{AllocError, Global};
 use std::io;
 use std::rt::Files;
 use tables::Tables;
 use tool_io::{Fields, Quoted, ReadError, Reason, Refused, Stop, file_error, read_named, refused};
+use words::front;
 
 // The factors that are tried, from 1 on, where two different rows have one hash.
 pub const FACTORS: u64 = 64;
 
-// A phrase file, and the buffers of its tables.
+// The buffers of a phrase file, which stands at the front of its own, and of its tables.
 #[derive(Drop)]
 pub struct Dictionary {
-    pub file: Vec<u8>,
-    places: Vec<u32>,
-    lefts: Vec<u32>,
-    rights: Vec<u32>,
-    prefixes: Vec<u32>,
-    area: Vec<u32>,
+    bytes: [u8; 65536],
+    size: usize,
+    places: [u32; 4096],
+    lefts: [u32; 4096],
+    rights: [u32; 4096],
+    prefixes: [u32; 4096],
+    area: [u32; 16384],
 }
 
 impl Dictionary {
-    // A file before its tables are built.
-    pub(crate) fn new(alloc: Global, file: Vec<u8>) -> Result<Dictionary, AllocError>
-        ensures { IfOk result (λ d. d.file ≡ file) }
+    // Buffers before a file is read.
+    pub fn blank() -> Dictionary
+        ensures { result.size ≡ 0 }
     {
-        Ok(Dictionary {
-            file,
-            places: vec![in alloc; 0; 4096]?,
-            lefts: vec![in alloc; 0; 4096]?,
-            rights: vec![in alloc; 0; 4096]?,
-            prefixes: vec![in alloc; 0; 4096]?,
-            area: vec![in alloc; 0; 16384]?,
-        })
+        Dictionary {
+            bytes: [0; 65536],
+            size: 0,
+            places: [0; 4096],
+            lefts: [0; 4096],
+            rights: [0; 4096],
+            prefixes: [0; 4096],
+            area: [0; 16384],
+        }
+    }
+
+    // The phrase file.
+    pub fn file(&self) -> &[u8]
+        ensures bytes { result.now ≡ take self.now.size self.now.bytes }
+        ensures inside { length result.now ≤ 65536 }
+    {
+        front(&self.bytes, self.size)
+    }
+
+    // Reads a file of this name.
+    pub(crate) fn read(&mut self, rt: &impl Files, name: &[u8]) -> Result<(), ReadError>
+        ensures { Loads result self.new }
+    {
+        self.size = read_named(rt, name, &mut self.bytes)?;
+        Ok(())
     }
 
     // Builds the tables with a factor, and gives the count of rows.
     pub(crate) fn build(&mut self, factor: u64) -> Result<usize, Cause>
-        ensures { self.new.file ≡ self.old.file }
+        ensures { Kept self.old self.new }
     {
         dictionary::from_dictionary(
-            &self.file,
+            front(&self.bytes, self.size),
             factor,
             &mut self.places,
             &mut self.lefts,
@@ -55,7 +73,7 @@ impl Dictionary {
 
     // The lowest of the factors tried under which no two rows clash, if there is one.
     pub(crate) fn find_factor(&mut self) -> Option<u64>
-        ensures { self.new.file ≡ self.old.file }
+        ensures { Kept self.old self.new }
     {
         for factor in 1..=FACTORS {
             if !matches!(self.build(factor), Err(Cause::SameHash(_))) {
@@ -67,10 +85,13 @@ impl Dictionary {
 
     // The tables, for the calls of the library.
     pub fn tables(&self) -> Tables<'_>
-        ensures { result.file.now ≡ self.now.file.items }
+        ensures file { result.file.now ≡ take self.now.size self.now.bytes }
+        ensures lengths { (length result.places.now ≡ 4096) × (length result.lefts.now ≡ 4096)
+            × (length result.rights.now ≡ 4096) × (length result.prefixes.now ≡ 4096)
+            × (length result.area.now ≡ 16384) }
     {
         Tables {
-            file: &self.file,
+            file: self.file(),
             places: &self.places,
             lefts: &self.lefts,
             rights: &self.rights,
@@ -90,7 +111,7 @@ fn say_clash(
 ) -> io::Result<()> {
     let other = dictionary.find_factor();
     let (refused, fields, name) = (Refused(cause), Fields(cause), Quoted(name));
-    let file = dictionary.file.as_slice();
+    let file = dictionary.file();
     let reason = Reason {
         cause,
         file,
@@ -116,7 +137,7 @@ pub(crate) fn build(
     dictionary: &mut Dictionary,
     factor: u64,
 ) -> Result<usize, Stop>
-    ensures { OnOk result (dictionary.new.file ≡ dictionary.old.file) }
+    ensures { OnOk result (Kept dictionary.old dictionary.new) }
 {
     match dictionary.build(factor) {
         Ok(rows) => Ok(rows),
@@ -125,7 +146,7 @@ pub(crate) fn build(
             Err(Stop::Said)
         }
         Err(cause) => {
-            let file = dictionary.file.as_slice();
+            let file = dictionary.file();
             Err(refused(
                 rt,
                 cause,
@@ -140,14 +161,15 @@ pub(crate) fn build(
 }
 
 // Reads a phrase file, of at most 65,536 bytes, or says why it cannot. A longer one has cause 2.
-pub(crate) fn read_file<R: Files + Print + AllocGlobal>(
-    rt: &R,
+pub(crate) fn read_file(
+    rt: &(impl Files + Print),
     name: &[u8],
-) -> Result<Vec<u8>, Stop>
-    ensures { IfOk result (λ file. vec_len file ≤ 65536) }
+    dictionary: &mut Dictionary,
+) -> Result<(), Stop>
+    ensures { Loads result dictionary.new }
 {
-    match read_named(rt, name, 65536) {
-        Ok(file) => Ok(file),
+    match dictionary.read(rt, name) {
+        Ok(()) => Ok(()),
         Err(ReadError::Over) => {
             let cause = Cause::BadRecord(65536);
             Err(refused(
@@ -166,12 +188,11 @@ pub(crate) fn read_file<R: Files + Print + AllocGlobal>(
 
 // Reads and builds a phrase file, or says why it cannot. The factor is the first that helps, else 1: codes do not
 // depend on it.
-pub fn load<R: Files + Print + AllocGlobal>(rt: &R, name: &[u8]) -> Result<Dictionary, Stop>
-    ensures { Loads result }
+pub fn load(rt: &(impl Files + Print), name: &[u8], dictionary: &mut Dictionary) -> Result<(), Stop>
+    ensures { Loads result dictionary.new }
 {
-    let file = read_file(rt, name)?;
-    let mut dictionary = Dictionary::new(rt.alloc(), file)?;
+    read_file(rt, name, dictionary)?;
     let factor = dictionary.find_factor().unwrap_or(1);
-    build(rt, name, &mut dictionary, factor)?;
-    Ok(dictionary)
+    build(rt, name, dictionary, factor)?;
+    Ok(())
 }

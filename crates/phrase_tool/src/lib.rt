@@ -17,11 +17,11 @@ mod usage;
 
 use crate::usage::PAGE;
 use file_commands::{check, make_phrase_file};
-use std::alloc::{AllocError, Global};
 use std::io;
 use std::io::Read;
 use std::rt::Files;
 use tool_io::{Quoted, Stop};
+use words::front;
 
 // The page of usage.
 fn help(rt: &impl Print) -> Result<(), Stop> {
@@ -46,13 +46,13 @@ fn unknown(rt: &impl Print, command: &[u8]) -> Result<(), Stop> {
 }
 
 // A command over a phrase file and a text to send.
-fn run_text<R: Files + Print + AllocGlobal>(
-    rt: &R,
+fn run_text(
+    rt: &(impl Files + Print),
     command: &[u8],
     arguments: &[&[u8]],
+    given: usize,
     input: &mut impl Read,
 ) -> Result<(), Stop> {
-    let given = arguments.len();
     match command {
         b"encode" => match arguments {
             &[file, text] => crate::sending::encode(rt, file, text, input),
@@ -78,15 +78,15 @@ fn run_text<R: Files + Print + AllocGlobal>(
     }
 }
 
-// A command and its arguments.
-fn run_command<R: Files + Print + AllocGlobal>(
-    rt: &R,
+// A command and its arguments: the first of those given, one more than any command takes.
+fn run_command(
+    rt: &(impl Files + Print),
     command: &[u8],
     arguments: &[&[u8]],
+    given: usize,
     input: &mut impl Read,
     each: bool,
 ) -> Result<(), Stop> {
-    let given = arguments.len();
     match command {
         b"help" => help(rt),
         b"sheet" => match arguments {
@@ -110,30 +110,47 @@ fn run_command<R: Files + Print + AllocGlobal>(
             &[file, left, right] => crate::pairs::why(rt, file, left, right),
             _ => wrong_count(rt, "why", "FILE ROW ROW", given),
         },
-        _ => run_text(rt, command, arguments, input),
+        _ => run_text(rt, command, arguments, given, input),
     }
 }
 
-// The words of a command line.
-fn words_of(alloc: Global, line: &[u8]) -> Result<Vec<&[u8]>, AllocError> {
-    line.split_inclusive(|byte| *byte == 0)
-        .map(|word| word.strip_suffix(&[0]).unwrap_or(word))
-        .collect(alloc)
+// How many words a command line has.
+fn word_count(line: &[u8]) -> usize {
+    line.split_inclusive(|byte| *byte == 0).count()
+}
+
+// A word of a command line, counted from 0; an empty one if there is none.
+fn word(line: &[u8], i: usize) -> &[u8] {
+    let word = line
+        .split_inclusive(|byte| *byte == 0)
+        .nth(i)
+        .unwrap_or(&[]);
+    word.strip_suffix(&[0]).unwrap_or(word)
 }
 
 // Runs a command line: the command and its arguments, each word ended by a byte 0, which no argument of a program
 // holds; the page of usage where there is no word. `input` is standard input; `each` says whether `type` shows the
-// count after each byte. An error is one of printing, or of memory.
-pub fn run<R: Files + Print + AllocGlobal>(
-    rt: &R,
+// count after each byte. An error is one of printing.
+pub fn run(
+    rt: &(impl Files + Print),
     line: &[u8],
     input: &mut impl Read,
     each: bool,
 ) -> io::Result<()> {
-    let words = words_of(rt.alloc(), line)?;
-    let answered = match words.split_first() {
-        None => help(rt),
-        Some((command, arguments)) => run_command(rt, command, arguments, input, each),
+    let count = word_count(line);
+    let answered = if count == 0 {
+        help(rt)
+    } else {
+        let given = count - 1;
+        let arguments = [word(line, 1), word(line, 2), word(line, 3), word(line, 4)];
+        run_command(
+            rt,
+            word(line, 0),
+            front(&arguments, given),
+            given,
+            input,
+            each,
+        )
     };
     match answered {
         Ok(()) | Err(Stop::Said) => Ok(()),

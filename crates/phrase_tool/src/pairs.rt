@@ -1,14 +1,14 @@
 // `phrases why FILE ROW ROW`
-use crate::sending::{sent, told};
+use crate::sending::{Numbers, sent, told};
 use byte_pair_encoding::is_valid_token_pair;
 use decoder::decode_tokens;
-use file_commands::load;
+use file_commands::{Dictionary, load};
 use phrase_file::num_rows;
 use std::fmt;
 use std::rt::Files;
 use tables::Tables;
 use tool_io::{Codes, Many, Quoted, Row, Stop, argument_error, refused};
-use words::number;
+use words::{front, number};
 
 // A row and its parts.
 #[derive(Clone, Copy)]
@@ -36,16 +36,13 @@ impl fmt::Display for Parts<'_> {
 }
 
 // How the bytes of two rows are sent.
-fn say_instead(
-    rt: &(impl Print + AllocGlobal),
-    tables: &Tables<'_>,
-    pair: &[u32],
-) -> Result<(), Stop> {
-    let mut bytes = vec![in rt.alloc(); 0; 128]?;
+fn say_instead(rt: &impl Print, tables: &Tables<'_>, pair: &[u32]) -> Result<(), Stop> {
+    let mut bytes = [0u8; 128];
     let size = told(rt, decode_tokens(tables, pair, &mut bytes), tables.file)?;
-    bytes.truncate(size);
-    let codes = sent(rt, tables, &bytes)?;
-    let (joined, codes) = (Quoted(&bytes), Codes(&codes));
+    let joined = front(&bytes, size);
+    let mut codes: Numbers = [0; 4096];
+    let codes = sent(rt, tables, joined, &mut codes)?;
+    let (joined, codes) = (Quoted(joined), Codes(codes));
     println!(rt; "{joined} is sent as {codes}")?;
     Ok(())
 }
@@ -58,14 +55,16 @@ fn row_number(rt: &impl Print, argument: &[u8]) -> Result<u32, Stop> {
     }
 }
 
-// The command.
-pub(crate) fn why<R: Files + Print + AllocGlobal>(
-    rt: &R,
+// The command. Not inlined into the one that runs all: its tables take stack only while it runs.
+#[inline(never)]
+pub(crate) fn why(
+    rt: &(impl Files + Print),
     file: &[u8],
     left: &[u8],
     right: &[u8],
 ) -> Result<(), Stop> {
-    let dictionary = load(rt, file)?;
+    let mut dictionary = Dictionary::blank();
+    load(rt, file, &mut dictionary)?;
     let left = row_number(rt, left)?;
     let right = row_number(rt, right)?;
     let tables = dictionary.tables();

@@ -4,6 +4,7 @@ use std::fmt::Display;
 use std::io::Read;
 use std::rt::Files;
 use tool_io::{Many, Quoted, ReadError, Stop, argument_error, file_error, read_given, refused};
+use words::front;
 
 // A text of more than 4,096 bytes: cause 9.
 fn too_long<D: Display + Drop>(rt: &impl Print, name: &[u8], size: D) -> Stop {
@@ -14,32 +15,33 @@ fn too_long<D: Display + Drop>(rt: &impl Print, name: &[u8], size: D) -> Stop {
     refused(rt, Cause::TooLong, reason)
 }
 
-// Reads a text of at most 4,096 bytes, or says why it cannot. More are read, so that the length of a longer one can be
-// said.
-pub(crate) fn read_text<R: Files + Print + AllocGlobal>(
-    rt: &R,
+// A text as it is read. It has room for more than may be sent, so that the length of a longer one can be said.
+pub(crate) type Text = [u8; 65536];
+
+// Reads a text of at most 4,096 bytes into a buffer, or says why it cannot.
+pub(crate) fn read_text<'a>(
+    rt: &(impl Files + Print),
     name: &[u8],
     input: &mut impl Read,
-) -> Result<Vec<u8>, Stop> {
-    let text = match read_given(rt, name, input, 65536) {
-        Ok(text) => text,
-        Err(ReadError::Over) => return Err(too_long(rt, name, "over 65536 bytes")),
-        Err(ReadError::Failed(error)) => return Err(file_error(rt, "TEXT", name, &error)),
-    };
-    if text.len() > 4096 {
-        return Err(too_long(rt, name, Many(text.len(), "byte")));
+    buffer: &'a mut Text,
+) -> Result<&'a [u8], Stop> {
+    match read_given(rt, name, input, buffer) {
+        Ok(size @ 0..=4096) => Ok(front(buffer, size)),
+        Ok(size) => Err(too_long(rt, name, Many(size, "byte"))),
+        Err(ReadError::Over) => Err(too_long(rt, name, "over 65536 bytes")),
+        Err(ReadError::Failed(error)) => Err(file_error(rt, "TEXT", name, &error)),
     }
-    Ok(text)
 }
 
-// Reads the text of `decode`, or says why it cannot: numbers, in at most 65,536 bytes.
-pub(crate) fn read_numbers<R: Files + Print + AllocGlobal>(
-    rt: &R,
+// Reads the text of `decode`, or says why it cannot: numbers, of which no more are read than the buffer has room for.
+pub(crate) fn read_numbers<'a>(
+    rt: &(impl Files + Print),
     name: &[u8],
     input: &mut impl Read,
-) -> Result<Vec<u8>, Stop> {
-    match read_given(rt, name, input, 65536) {
-        Ok(text) => Ok(text),
+    buffer: &'a mut Text,
+) -> Result<&'a [u8], Stop> {
+    match read_given(rt, name, input, buffer) {
+        Ok(size) => Ok(front(buffer, size)),
         Err(ReadError::Over) => {
             Err(argument_error(rt, "TEXT", name, "it has more than 65536 bytes"))
         }

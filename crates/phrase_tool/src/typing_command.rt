@@ -1,8 +1,8 @@
 // `phrases type FILE`: standard input as a person types it. The typing calls over columns are used: those over a
 // slice of records are the same calls, and a function around them is not covered by the borrow checker.
 use crate::bursts::{BurstFields, InBursts};
-use crate::sending::sent;
-use file_commands::load;
+use crate::sending::{Numbers, sent};
+use file_commands::{Dictionary, load};
 use std::io::Read;
 use std::rt::Files;
 use std::{fmt, io};
@@ -122,13 +122,14 @@ fn say_agreement(rt: &impl Print, len: usize, sent: &[u32], counted: usize) -> i
 
 // The command. `each` says whether the count is shown after each byte, as at a terminal, or after each input line. At
 // the end a line that is still open is shown, then the codes as sent.
-pub(crate) fn type_text<R: Files + Print + AllocGlobal>(
-    rt: &R,
+pub(crate) fn type_text(
+    rt: &(impl Files + Print),
     file: &[u8],
     input: &mut impl Read,
     each: bool,
 ) -> Result<(), Stop> {
-    let dictionary = load(rt, file)?;
+    let mut dictionary = Dictionary::blank();
+    load(rt, file, &mut dictionary)?;
     let tables = dictionary.tables();
     let mut typing = Typing {
         tables,
@@ -143,7 +144,8 @@ pub(crate) fn type_text<R: Files + Print + AllocGlobal>(
         typing.end_line(rt)?;
     }
     let len = typing.len;
-    let sent = sent(rt, &tables, front(&typing.columns.bytes, len))?;
-    say_agreement(rt, len, &sent, typing.count())?;
+    let mut codes: Numbers = [0; 4096];
+    let sent = sent(rt, &tables, front(&typing.columns.bytes, len), &mut codes)?;
+    say_agreement(rt, len, sent, typing.count())?;
     Ok(())
 }

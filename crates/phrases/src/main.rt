@@ -2,35 +2,36 @@
 // commands are.
 #![tactic(auto)]
 
-use std::alloc::AllocError;
 use std::env::{Env, FillError};
 use std::io;
 use std::io::IsTerminal;
-use words::front;
+use words::{front, put, put_all};
 
-// All arguments but the program's name, each ended by a byte 0, in at most 16,384 bytes. One of more than 4,095 bytes
-// is an empty one. They are read as bytes, since one need not be UTF-8.
-fn command_line(rt: &(impl Env + AllocGlobal)) -> Result<Vec<u8>, AllocError> {
-    let mut line = Vec::new(rt.alloc());
+// Puts all arguments but the program's name at the front of a line, each ended by a byte 0, as far as there is room,
+// and gives the place behind them. One of more than 4,095 bytes is an empty one. They are read as bytes, since one need
+// not be UTF-8.
+fn put_arguments(rt: &impl Env, line: &mut [u8]) -> usize {
     let mut argument = [0u8; 4096];
+    let mut end = 0;
     for i in 1..usize::MAX {
-        if 16384 <= line.len() {
+        if line.len() <= end {
             break;
         }
-        match rt.arg(i, &mut argument) {
-            Ok(size) => line.extend_from_slice(front(&argument, size))?,
-            Err(FillError::TooLong) => {}
+        let size = match rt.arg(i, &mut argument) {
+            Ok(size) => size,
+            Err(FillError::TooLong) => 0,
             Err(FillError::NotPresent) => break,
-        }
-        line.push(0)?;
+        };
+        end = put_all(line, end, front(&argument, size));
+        end = put(line, end, 0);
     }
-    line.truncate(16384);
-    Ok(line)
+    end
 }
 
 fn main(rt: HostRuntime) -> io::Result<()> {
-    let line = command_line(&rt)?;
+    let mut line = [0u8; 16384];
+    let size = put_arguments(&rt, &mut line);
     let mut input = rt.stdin();
     let each = input.is_terminal();
-    phrase_tool::run(&rt, &line, &mut input, each)
+    phrase_tool::run(&rt, front(&line, size), &mut input, each)
 }

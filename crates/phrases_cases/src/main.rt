@@ -4,13 +4,12 @@
 
 ghost use Rattle.std.specs.Prelude.{◌<◌, length};
 
-use std::alloc::{AllocError, Global};
 use std::io::{Read, Write};
 use std::rt::Files;
 use std::{fs, io};
 use text_forms::unescape;
 use tool_io::read_full;
-use words::{back, count_before, front, number};
+use words::{back, count_before, front, number, put, put_all};
 
 // What stands before the first byte of this value, and what follows it.
 fn split_at_byte(text: &[u8], byte: u8) -> (&[u8], &[u8])
@@ -20,31 +19,42 @@ fn split_at_byte(text: &[u8], byte: u8) -> (&[u8], &[u8])
     (front(text, size), back(text, size.saturating_add(1)))
 }
 
-// Adds the bytes of an escaped text of at most 64 bytes.
-fn push_unescaped(bytes: &mut Vec<u8>, text: &[u8]) -> Result<(), AllocError> {
+// Puts the bytes of an escaped text of at most 64 bytes at a place, as far as there is room, and gives the place behind
+// them.
+fn put_unescaped(text: &[u8], out: &mut [u8], at: usize) -> usize {
     let mut phrase = [0u8; 64];
     match unescape(text, &mut phrase) {
-        Ok(size) => bytes.extend_from_slice(front(&phrase, size)),
-        Err(_) => Ok(()),
+        Ok(size) => put_all(out, at, front(&phrase, size)),
+        Err(_) => at,
     }
 }
 
-// A command line as the library takes it: each word is ended by a byte 0, and '' is an empty one. It has at most 8,192
-// bytes.
-fn command_line(alloc: Global, line: &[u8]) -> Result<Vec<u8>, AllocError> {
-    let mut bytes = Vec::new(alloc);
+// Puts a command line as the library takes it: each word is ended by a byte 0, and '' is an empty one.
+fn put_words(line: &[u8], out: &mut [u8]) -> usize {
+    let mut end = 0;
     let mut left = line;
     while !left.is_empty() {
         let (word, rest) = split_at_byte(left, b' ');
         match word {
             b"''" => {}
-            _ => push_unescaped(&mut bytes, word)?,
+            _ => end = put_unescaped(word, out, end),
         }
-        bytes.push(0)?;
+        end = put(out, end, 0);
         left = rest;
     }
-    bytes.truncate(8192);
-    Ok(bytes)
+    end
+}
+
+// Puts an escaped text so many times, as far as there is room.
+fn put_times(text: &[u8], times: u64, out: &mut [u8]) -> usize {
+    let mut end = 0;
+    for _ in 0..times {
+        if out.len() <= end {
+            break;
+        }
+        end = put_unescaped(text, out, end);
+    }
+    end
 }
 
 // A name as the system's calls take it: empty where it is not UTF-8.
@@ -53,26 +63,20 @@ fn path_of(name: &[u8]) -> &str {
 }
 
 // `write NAME TIMES TEXT`: at most 131,072 bytes.
-fn write(rt: &(impl Files + AllocGlobal), arguments: &[u8]) -> io::Result<()> {
+fn write(rt: &impl Files, arguments: &[u8]) -> io::Result<()> {
     let (name, rest) = split_at_byte(arguments, b' ');
     let (times, text) = split_at_byte(rest, b' ');
     let Some(times) = number(times) else {
         return Ok(());
     };
-    let mut bytes = Vec::new(rt.alloc());
-    for _ in 0..times {
-        push_unescaped(&mut bytes, text)?;
-        if 131072 < bytes.len() {
-            break;
-        }
-    }
-    bytes.truncate(131072);
-    fs::create(rt, path_of(name))?.write_all(&bytes)
+    let mut bytes = [0u8; 131072];
+    let size = put_times(text, times, &mut bytes);
+    fs::create(rt, path_of(name))?.write_all(front(&bytes, size))
 }
 
 // `print NAME`: at most 131,072 bytes.
-fn print(rt: &(impl Files + Print + AllocGlobal), name: &[u8]) -> io::Result<()> {
-    let mut bytes = vec![in rt.alloc(); 0; 131072]?;
+fn print(rt: &(impl Files + Print), name: &[u8]) -> io::Result<()> {
+    let mut bytes = [0u8; 131072];
     let mut file = fs::open(rt, path_of(name))?;
     let size = read_full(&mut file, &mut bytes)?;
     rt.write_all(front(&bytes, size))
@@ -92,16 +96,18 @@ impl Read for Closed {
 }
 
 // `phrases WORD ..`, with the file `input` as standard input.
-fn run<R: Files + Print + AllocGlobal>(rt: &R, words: &[u8], each: bool) -> io::Result<()> {
-    let line = command_line(rt.alloc(), words)?;
+fn run(rt: &(impl Files + Print), words: &[u8], each: bool) -> io::Result<()> {
+    let mut buffer = [0u8; 8192];
+    let size = put_words(words, &mut buffer);
+    let line = front(&buffer, size);
     match fs::open(rt, "input") {
-        Ok(mut input) => phrase_tool::run(rt, &line, &mut input, each),
-        Err(_) => phrase_tool::run(rt, &line, &mut Closed {}, each),
+        Ok(mut input) => phrase_tool::run(rt, line, &mut input, each),
+        Err(_) => phrase_tool::run(rt, line, &mut Closed {}, each),
     }
 }
 
 // Does a line, and gives whether `type` shows the count after each byte from now on.
-fn obey<R: Files + Print + AllocGlobal>(rt: &R, line: &[u8], each: bool) -> io::Result<bool> {
+fn obey(rt: &(impl Files + Print), line: &[u8], each: bool) -> io::Result<bool> {
     let (command, arguments) = split_at_byte(line, b' ');
     match command {
         b"each" => match arguments {
@@ -123,7 +129,7 @@ fn obey<R: Files + Print + AllocGlobal>(rt: &R, line: &[u8], each: bool) -> io::
 }
 
 fn main(rt: HostRuntime) -> io::Result<()> {
-    let mut input = vec![in rt.alloc(); 0; 65536]?;
+    let mut input = [0u8; 65536];
     let size = read_full(&mut rt.stdin(), &mut input)?;
     let mut left = front(&input, size);
     let mut each = false;

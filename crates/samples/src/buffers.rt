@@ -1,6 +1,5 @@
 // Buffers that calls are lent, and what stands in them before a call, so that what the call wrote can be told
 // afterwards.
-use std::alloc::{AllocError, Global};
 
 // The number or the byte that stands at a place of a buffer before a call.
 pub(crate) trait Canary: Copy + Default + PartialEq {
@@ -21,16 +20,18 @@ impl Canary for u8 {
 
 // A buffer, of which the first `lent` numbers or bytes are lent, or all if there are fewer.
 #[derive(Drop)]
-pub(crate) struct Buffer<T> {
-    pub(crate) items: Vec<T>,
+pub(crate) struct Buffer<T, const N: usize> {
+    pub(crate) items: [T; N],
     lent: usize,
 }
 
-impl<T: Canary> Buffer<T> {
-    // A buffer of so many zeros, all of it lent.
-    pub(crate) fn new(alloc: Global, size: usize) -> Result<Self, AllocError> {
-        let items = vec![in alloc; T::default(); size]?;
-        Ok(Buffer { items, lent: size })
+impl<T: Canary, const N: usize> Buffer<T, N> {
+    // A buffer of zeros, all of it lent.
+    pub(crate) fn new() -> Self {
+        Buffer {
+            items: [T::default(); N],
+            lent: N,
+        }
     }
 
     // Lends so many from now on.

@@ -1,6 +1,10 @@
-// Words, numbers and escaped bytes of the lines of a script.
+// Words, numbers and escaped bytes of the lines of a script, and the reading of such lines.
 ghost use Rattle.std.specs.Prelude.{length, ◌<◌};
 ghost use Rattle.std.specs.Iterator.{at_most};
+
+use crate::held::Held;
+use std::io;
+use std::io::BufRead;
 
 // The first word of a line, and what follows it and a space.
 pub(crate) fn split_word(line: &[u8]) -> (&[u8], &[u8]) {
@@ -64,4 +68,35 @@ impl Iterator for Unescaped<'_> {
         self.0 = left;
         Some(byte)
     }
+}
+
+// How many bytes of a line there is room for.
+const LINE: usize = 32768;
+
+// The bytes of a line that stand at the front of some bytes, at most so many, and whether the line ends behind them.
+fn line_part(bytes: &[u8], room: usize) -> (&[u8], bool) {
+    let front = &bytes[..bytes.len().min(room)];
+    match front.iter().position(|byte| *byte == b'\n') {
+        Some(end) => (&front[..end], true),
+        None => (front, false),
+    }
+}
+
+// Reads a line of an input, as far as there is room, and tells whether there is one.
+pub(crate) fn read_line(input: &mut impl BufRead, line: &mut Held<u8, LINE>) -> io::Result<bool> {
+    line.clear();
+    for _ in 0..LINE {
+        let bytes = input.fill_buf()?;
+        if bytes.is_empty() {
+            return Ok(line.len() > 0);
+        }
+        let (part, ends) = line_part(bytes, line.room());
+        line.append(part);
+        let taken = part.len().saturating_add(usize::from(ends));
+        input.consume(taken);
+        if ends || line.room() == 0 {
+            return Ok(true);
+        }
+    }
+    Ok(true)
 }

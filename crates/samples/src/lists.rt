@@ -3,7 +3,6 @@ use crate::buffers::Buffer;
 use crate::fields::{entry, size, split_word};
 use crate::saying::say_answer;
 use placed_rows::NONE;
-use std::alloc::{AllocError, Global};
 use std::io;
 use tables::Tables;
 
@@ -13,22 +12,23 @@ const AREA: usize = 16384;
 // The tables and the search area.
 #[derive(Drop)]
 pub(crate) struct Lists {
-    pub(crate) places: Buffer<u32>,
-    pub(crate) lefts: Buffer<u32>,
-    pub(crate) rights: Buffer<u32>,
-    pub(crate) prefixes: Buffer<u32>,
-    pub(crate) area: Buffer<u32>,
+    pub(crate) places: Buffer<u32, 4200>,
+    pub(crate) lefts: Buffer<u32, 4200>,
+    pub(crate) rights: Buffer<u32, 4200>,
+    pub(crate) prefixes: Buffer<u32, 4200>,
+    pub(crate) area: Buffer<u32, 16400>,
 }
 
 impl Lists {
-    pub(crate) fn new(alloc: Global) -> Result<Self, AllocError> {
-        Ok(Lists {
-            places: Buffer::new(alloc, 4200)?,
-            lefts: Buffer::new(alloc, 4200)?,
-            rights: Buffer::new(alloc, 4200)?,
-            prefixes: Buffer::new(alloc, 4200)?,
-            area: Buffer::new(alloc, 16400)?,
-        })
+    // Zeros, all of them lent.
+    pub(crate) fn new() -> Self {
+        Lists {
+            places: Buffer::new(),
+            lefts: Buffer::new(),
+            rights: Buffer::new(),
+            prefixes: Buffer::new(),
+            area: Buffer::new(),
+        }
     }
 
     // Lends all of each.
@@ -102,7 +102,7 @@ impl Lists {
 }
 
 // An entry of a table, 0 beyond it.
-fn at(table: &Buffer<u32>, row: usize) -> u32 {
+fn at(table: &Buffer<u32, 4200>, row: usize) -> u32 {
     table.items.get(row).copied().unwrap_or(0)
 }
 
@@ -112,7 +112,7 @@ fn count_rows(file: &[u8]) -> usize {
 }
 
 // What a build did to a buffer of which it fills the first n numbers.
-fn state(buffer: &Buffer<u32>, n: usize) -> &'static str {
+fn state<const N: usize>(buffer: &Buffer<u32, N>, n: usize) -> &'static str {
     if buffer.is_kept(0) {
         return "unchanged";
     }

@@ -9,27 +9,26 @@ mod buffers;
 mod commands;
 mod fields;
 mod files;
+mod held;
 mod lists;
 mod saying;
 mod script;
 
+use crate::fields::read_line;
+use crate::held::Held;
 use crate::script::Script;
 use std::io;
-use std::io::{BufRead, BufReader, Read};
+use std::io::{BufRead, BufReader};
 
 // Works through the commands of an input: at most a million lines of at most 32,768 bytes.
-fn run(rt: &(impl Print + AllocGlobal), input: &mut (impl BufRead + Drop)) -> io::Result<()> {
-    let mut script = Script::new(rt.alloc())?;
-    let mut line = Vec::new(rt.alloc());
+fn run(rt: &impl Print, input: &mut impl BufRead) -> io::Result<()> {
+    let mut script = Script::new();
+    let mut line = Held::new();
     for _ in 0..1000000usize {
-        line.clear();
-        if input.by_ref().take(32768).read_until(b'\n', &mut line)? == 0 {
+        if !read_line(input, &mut line)? {
             return Ok(());
         }
-        if line.last() == Some(&b'\n') {
-            line.pop();
-        }
-        script.obey(rt, &line)?;
+        script.obey(rt, line.all())?;
     }
     Ok(())
 }

@@ -1,4 +1,5 @@
 // What is printed of the answers of calls.
+use crate::buffers::Buffer;
 use causes::{Cause, Told};
 use std::io;
 
@@ -19,6 +20,19 @@ pub(crate) fn say_codes(rt: &impl Print, codes: &[u32]) -> io::Result<()> {
         print!(rt; " {code}")?;
     }
     Ok(())
+}
+
+// The answer of a call that decodes, and the bytes.
+pub(crate) fn say_bytes<const N: usize>(
+    rt: &impl Print,
+    answer: Result<usize, Cause>,
+    bytes: &Buffer<u8, N>,
+) -> io::Result<()> {
+    let end = answer.unwrap_or(0);
+    say_answer(rt, answer)?;
+    print!(rt; ": ")?;
+    rt.write_all(bytes.front(end))?;
+    say_kept(rt, bytes.is_kept(end))
 }
 
 // Whether the buffers beyond what the call may write are as before.

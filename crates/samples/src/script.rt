@@ -3,46 +3,51 @@ use crate::buffers::Buffer;
 use crate::commands::{Call, Setting};
 use crate::fields::{Unescaped, entry, number, size, split_word};
 use crate::files::PhraseFile;
+use crate::held::Held;
 use crate::lists::Lists;
-use crate::saying::{say_answer, say_codes, say_kept};
+use crate::saying::{say_answer, say_bytes, say_codes, say_kept};
 use causes::Cause;
-use std::alloc::{AllocError, Global};
 use std::io;
 use tables::Tables;
 
 // How many bytes of a text and how many codes there is room for: more than a call takes.
 const ROOM: usize = 4200;
 
-// The phrase file, the tables, the text and the codes, and the buffers that calls write to.
+// How many bytes a call that decodes is lent at first.
+const BYTES: usize = 66000;
+
+// The phrase file, the tables, the text and the codes, and the buffers that calls write to. Of the bytes that a call
+// decodes to there is only how many are lent: they stand where that call is made, since no other needs the room.
 #[derive(Drop)]
 pub(crate) struct Script {
     file: PhraseFile,
     lists: Lists,
-    text: Vec<u8>,
-    codes: Vec<u32>,
-    output: Buffer<u32>,
-    work: Buffer<u32>,
-    bytes: Buffer<u8>,
+    text: Held<u8, ROOM>,
+    codes: Held<u32, ROOM>,
+    output: Buffer<u32, 4200>,
+    work: Buffer<u32, 4200>,
+    lent_bytes: usize,
 }
 
 impl Script {
-    pub(crate) fn new(alloc: Global) -> Result<Self, AllocError> {
-        Ok(Script {
-            file: PhraseFile::new(alloc),
-            lists: Lists::new(alloc)?,
-            text: Vec::new(alloc),
-            codes: Vec::new(alloc),
-            output: Buffer::new(alloc, 4200)?,
-            work: Buffer::new(alloc, 4200)?,
-            bytes: Buffer::new(alloc, 66000)?,
-        })
+    // Nothing is set at first, and all is lent.
+    pub(crate) fn new() -> Self {
+        Script {
+            file: PhraseFile::new(),
+            lists: Lists::new(),
+            text: Held::new(),
+            codes: Held::new(),
+            output: Buffer::new(),
+            work: Buffer::new(),
+            lent_bytes: BYTES,
+        }
     }
 
     // Does the command of a line, if it is one.
     pub(crate) fn obey(&mut self, rt: &impl Print, line: &[u8]) -> io::Result<()> {
         let (name, arguments) = split_word(line);
         if let Some(setting) = Setting::named(name) {
-            self.set(setting, arguments)?;
+            self.set(setting, arguments);
         } else if let Some(call) = Call::named(name) {
             rt.write_all(name)?;
             self.call(rt, call, arguments)?;
@@ -51,23 +56,22 @@ impl Script {
     }
 
     // Does a command that sets something.
-    fn set(&mut self, setting: Setting, arguments: &[u8]) -> Result<(), AllocError> {
+    fn set(&mut self, setting: Setting, arguments: &[u8]) {
         let (_, left) = split_word(arguments);
         match setting {
             Setting::Empty => self.file.clear(),
-            Setting::Letters => self.file.put_letters(size(arguments))?,
-            Setting::Pairs => self.file.put_pairs(size(arguments))?,
-            Setting::Row => self.file.put_rows(arguments, 1)?,
-            Setting::Again => self.file.put_rows(left, size(arguments))?,
-            Setting::Raw => self.file.put(arguments)?,
+            Setting::Letters => self.file.put_letters(size(arguments)),
+            Setting::Pairs => self.file.put_pairs(size(arguments)),
+            Setting::Row => self.file.put_rows(arguments, 1),
+            Setting::Again => self.file.put_rows(left, size(arguments)),
+            Setting::Raw => self.file.put(arguments),
             Setting::Lend => self.lend(arguments),
             Setting::Set => self.lists.set(arguments),
-            Setting::Text => self.set_text(arguments, 1)?,
-            Setting::Repeat => self.set_text(left, size(arguments))?,
-            Setting::Codes => self.set_codes(arguments)?,
-            Setting::Same => self.repeat_code(entry(left), size(arguments))?,
+            Setting::Text => self.set_text(arguments, 1),
+            Setting::Repeat => self.set_text(left, size(arguments)),
+            Setting::Codes => self.set_codes(arguments),
+            Setting::Same => self.repeat_code(entry(left), size(arguments)),
         }
-        Ok(())
     }
 
     // `lend BUFFER SIZE` for one buffer, `lend all` for all as at first.
@@ -76,7 +80,7 @@ impl Script {
             self.lists.lend_all();
             self.output.lend_all();
             self.work.lend_all();
-            self.bytes.lend_all();
+            self.lent_bytes = BYTES;
             return;
         }
         let (name, left) = split_word(arguments);
@@ -89,35 +93,29 @@ impl Script {
             b"area" => self.lists.area.lend(count),
             b"output" => self.output.lend(count),
             b"work" => self.work.lend(count),
-            b"bytes" => self.bytes.lend(count),
+            b"bytes" => self.lent_bytes = count,
             _ => {}
         }
     }
 
     // `text BYTES` or `repeat TIMES BYTES`: the bytes so many times, as far as there is room.
-    fn set_text(&mut self, line: &[u8], times: usize) -> Result<(), AllocError> {
+    fn set_text(&mut self, line: &[u8], times: usize) {
         self.text.clear();
         for _ in 0..times {
-            let room = ROOM.saturating_sub(self.text.len());
-            self.text.extend(Unescaped(line).take(room))?;
+            self.text.extend(Unescaped(line));
         }
-        Ok(())
     }
 
     // `codes CODE ..`, as far as there is room.
-    fn set_codes(&mut self, line: &[u8]) -> Result<(), AllocError> {
+    fn set_codes(&mut self, line: &[u8]) {
         self.codes.clear();
-        self.codes.extend(
-            line.split_inclusive(|byte| *byte == b' ')
-                .take(ROOM)
-                .map(entry),
-        )
+        self.codes
+            .extend(line.split_inclusive(|byte| *byte == b' ').map(entry));
     }
 
     // `same TIMES CODE`, as far as there is room.
-    fn repeat_code(&mut self, code: u32, times: usize) -> Result<(), AllocError> {
-        self.codes.clear();
-        self.codes.resize(times.min(ROOM), code)
+    fn repeat_code(&mut self, code: u32, times: usize) {
+        self.codes.repeat(code, times);
     }
 
     // Does a command that prints.
@@ -135,7 +133,7 @@ impl Script {
             Call::Rows => self.num_tokens(rt),
             Call::Length => self.token_len(rt, entry(arguments)),
             Call::Pair => self.check_pair(rt, arguments),
-            Call::Build => self.lists.build(rt, &self.file.bytes, number(arguments)),
+            Call::Build => self.lists.build(rt, self.file.bytes(), number(arguments)),
             Call::Entries => self.lists.say_entries(rt, size(arguments)),
         }
     }
@@ -149,8 +147,8 @@ impl Script {
         self.output.fill();
         self.work.fill();
         let answer = encode(
-            &self.lists.lent(&self.file.bytes),
-            &self.text,
+            &self.lists.lent(self.file.bytes()),
+            self.text.all(),
             self.output.lent_mut(),
             self.work.lent_mut(),
         );
@@ -170,8 +168,8 @@ impl Script {
     fn count(&mut self, rt: &impl Print) -> io::Result<()> {
         self.work.fill();
         let answer = byte_pair_encoding::count(
-            &self.lists.lent(&self.file.bytes),
-            &self.text,
+            &self.lists.lent(self.file.bytes()),
+            self.text.all(),
             self.work.lent_mut(),
         );
         say_answer(rt, answer)?;
@@ -183,8 +181,8 @@ impl Script {
     fn count_till_limit(&mut self, rt: &impl Print, limit: u64) -> io::Result<()> {
         self.work.fill();
         let answer = byte_pair_encoding::count_till_limit(
-            &self.lists.lent(&self.file.bytes),
-            &self.text,
+            &self.lists.lent(self.file.bytes()),
+            self.text.all(),
             limit,
             self.work.lent_mut(),
         );
@@ -193,47 +191,46 @@ impl Script {
         say_kept(rt, self.work.is_kept(scratch))
     }
 
+    // Canaries for a call that decodes, of which so many are lent.
+    fn bytes(&self) -> Buffer<u8, BYTES> {
+        let mut bytes = Buffer::new();
+        bytes.lend(self.lent_bytes);
+        bytes.fill();
+        bytes
+    }
+
     // `decode` of the codes that were set.
-    fn decode(&mut self, rt: &impl Print) -> io::Result<()> {
-        self.bytes.fill();
+    fn decode(&self, rt: &impl Print) -> io::Result<()> {
+        let mut bytes = self.bytes();
         let answer = decoder::decode_tokens(
-            &self.lists.lent(&self.file.bytes),
-            &self.codes,
-            self.bytes.lent_mut(),
+            &self.lists.lent(self.file.bytes()),
+            self.codes.all(),
+            bytes.lent_mut(),
         );
-        self.say_bytes(rt, answer)
+        say_bytes(rt, answer, &bytes)
     }
 
     // `bytes CODE`
-    fn token_bytes(&mut self, rt: &impl Print, code: u32) -> io::Result<()> {
-        self.bytes.fill();
+    fn token_bytes(&self, rt: &impl Print, code: u32) -> io::Result<()> {
+        let mut bytes = self.bytes();
         let answer = decoder::token_bytes(
-            &self.lists.lent(&self.file.bytes),
+            &self.lists.lent(self.file.bytes()),
             code,
-            self.bytes.lent_mut(),
+            bytes.lent_mut(),
         );
-        self.say_bytes(rt, answer)
-    }
-
-    // The answer of a call that decodes, and the bytes.
-    fn say_bytes(&self, rt: &impl Print, answer: Result<usize, Cause>) -> io::Result<()> {
-        let end = answer.unwrap_or(0);
-        say_answer(rt, answer)?;
-        print!(rt; ": ")?;
-        rt.write_all(self.bytes.front(end))?;
-        say_kept(rt, self.bytes.is_kept(end))
+        say_bytes(rt, answer, &bytes)
     }
 
     // `rows`
     fn num_tokens(&self, rt: &impl Print) -> io::Result<()> {
-        let answer = tables::num_tokens(&self.lists.lent(&self.file.bytes));
+        let answer = tables::num_tokens(&self.lists.lent(self.file.bytes()));
         say_answer(rt, answer)?;
         println!(rt)
     }
 
     // `length ROW`
     fn token_len(&self, rt: &impl Print, row: u32) -> io::Result<()> {
-        let answer = tables::token_len(&self.lists.lent(&self.file.bytes), row);
+        let answer = tables::token_len(&self.lists.lent(self.file.bytes()), row);
         say_answer(rt, answer)?;
         println!(rt)
     }
@@ -242,7 +239,7 @@ impl Script {
     fn check_pair(&self, rt: &impl Print, arguments: &[u8]) -> io::Result<()> {
         let (_, left) = split_word(arguments);
         let answer = byte_pair_encoding::is_valid_token_pair(
-            &self.lists.lent(&self.file.bytes),
+            &self.lists.lent(self.file.bytes()),
             entry(arguments),
             entry(left),
         );

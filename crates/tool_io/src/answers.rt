@@ -2,7 +2,6 @@
 use crate::refusals::{Fields, Refused};
 use crate::saying::Quoted;
 use causes::Cause;
-use std::alloc::AllocError;
 use std::fmt::Display;
 use std::io;
 use std::io::ErrorKind;
@@ -12,19 +11,13 @@ use std::io::ErrorKind;
 pub enum Stop {
     // A refusal or an error was said.
     Said,
-    // What it says cannot be printed, or memory ran out.
+    // What it says cannot be printed.
     Failed(io::Error),
 }
 
 impl From<io::Error> for Stop {
     fn from(error: io::Error) -> Stop {
         Stop::Failed(error)
-    }
-}
-
-impl From<AllocError> for Stop {
-    fn from(error: AllocError) -> Stop {
-        Stop::Failed(io::Error::from(error))
     }
 }
 

@@ -1,9 +1,8 @@
 // Files by name: reading a whole one and writing a whole one. The system's calls take a name as text, so one that is
 // not UTF-8 is no name of a file.
-ghost use Rattle.std.specs.Prelude.{◌≤◌, IfOk, vec_len};
+ghost use Rattle.std.specs.Prelude.{◌≡◌, length};
 ghost use Rattle.std.specs.Io.{ReadsAtMost};
 
-use std::alloc::{AllocError, Global};
 use std::fs::{OpenFile, OpenOptions, Permissions};
 use std::io::{ErrorKind, Read, Write};
 use std::os::unix::fs::{OpenOptionsExt, PermissionsExt};
@@ -13,7 +12,7 @@ use std::{fs, io};
 // Why a file or a text was not read.
 #[derive(Debug, Drop)]
 pub enum ReadError {
-    // It has more bytes than are allowed.
+    // It has more bytes than the buffer holds.
     Over,
     // The system's error.
     Failed(io::Error),
@@ -48,44 +47,41 @@ pub fn read_full(input: &mut impl Read, buffer: &mut [u8]) -> io::Result<usize>
     Ok(size)
 }
 
-// All that an input gives, if it is no more than `most` bytes. Where there are so many, one more read tells the end
-// from a longer input.
-fn read_all(alloc: Global, input: &mut impl Read, most: usize) -> Result<Vec<u8>, ReadError>
-    ensures { IfOk result (λ bytes. vec_len bytes ≤ most) }
+// All that an input gives, if it is no more than the buffer holds: how many bytes stand at the front of the buffer.
+// Where the buffer is full, one more read tells the end from a longer input.
+fn read_all(input: &mut impl Read, buffer: &mut [u8]) -> Result<usize, ReadError>
+    ensures inside { ReadsAtMost result buffer.new }
+    ensures same { length buffer.new ≡ length buffer.old }
 {
-    let mut bytes = vec![in alloc; 0; most].map_err(io::Error::from)?;
-    let size = read_full(input, &mut bytes)?;
-    if size == most && read_full(input, &mut [0])? != 0 {
-        return Err(ReadError::Over);
+    let size = read_full(input, buffer)?;
+    if size < buffer.len() || read_full(input, &mut [0])? == 0 {
+        return Ok(size);
     }
-    bytes.truncate(size);
-    Ok(bytes)
+    Err(ReadError::Over)
 }
 
 // All of a file.
-pub fn read_named<R: Files + AllocGlobal>(
-    rt: &R,
-    name: &[u8],
-    most: usize,
-) -> Result<Vec<u8>, ReadError>
-    ensures { IfOk result (λ bytes. vec_len bytes ≤ most) }
+pub fn read_named(rt: &impl Files, name: &[u8], buffer: &mut [u8]) -> Result<usize, ReadError>
+    ensures inside { ReadsAtMost result buffer.new }
+    ensures same { length buffer.new ≡ length buffer.old }
 {
     let mut file = fs::open(rt, path_of(name)?)?;
-    read_all(rt.alloc(), &mut file, most)
+    read_all(&mut file, buffer)
 }
 
 // All of a text: a file or, for `-`, the standard input.
-pub fn read_given<R: Files + AllocGlobal>(
-    rt: &R,
+pub fn read_given(
+    rt: &impl Files,
     name: &[u8],
     input: &mut impl Read,
-    most: usize,
-) -> Result<Vec<u8>, ReadError>
-    ensures { IfOk result (λ bytes. vec_len bytes ≤ most) }
+    buffer: &mut [u8],
+) -> Result<usize, ReadError>
+    ensures inside { ReadsAtMost result buffer.new }
+    ensures same { length buffer.new ≡ length buffer.old }
 {
     match name {
-        b"-" => read_all(rt.alloc(), input, most),
-        _ => read_named(rt, name, most),
+        b"-" => read_all(input, buffer),
+        _ => read_named(rt, name, buffer),
     }
 }
 

@@ -1,10 +1,9 @@
 // Every refusal of interval preparation, and of the count after it. Each case lends buffers that hold a pattern, does
 // both calls, and prints their answers and whether every buffer is as before. What must be printed comes from
 // tools/refusals.py.
-use crate::intervals::Lists;
+use crate::intervals::{List, Lists};
 use crate::said::{Answered, kept_or_changed};
 use crate::texts::with_area;
-use std::alloc::{AllocError, Global};
 use std::io;
 use tables::Tables;
 
@@ -42,15 +41,15 @@ const CASES: [Case; 11] = [
 ];
 
 // Lists that hold the pattern, one of them short.
-fn patterns(alloc: Global, short: Short) -> Result<Lists, AllocError> {
-    let room = |list: Short, few: usize| if list == short { few } else { 8 };
-    Ok(Lists {
-        last_codes: vec![in alloc; PATTERN; room(Short::Codes, 3)]?,
-        numbers: vec![in alloc; PATTERN; room(Short::Numbers, 4)]?,
-        ends: vec![in alloc; PATTERN; room(Short::Ends, 4)]?,
-        depths: vec![in alloc; PATTERN; room(Short::Depths, 4)]?,
-        work: vec![in alloc; PATTERN; room(Short::Work, 3)]?,
-    })
+fn patterns(short: Short) -> Lists {
+    let lend = |list: Short, few: usize| List::new(PATTERN, if list == short { few } else { 8 });
+    Lists {
+        last_codes: lend(Short::Codes, 3),
+        numbers: lend(Short::Numbers, 4),
+        ends: lend(Short::Ends, 4),
+        depths: lend(Short::Depths, 4),
+        work: lend(Short::Work, 3),
+    }
 }
 
 // Whether nothing was written to the lists.
@@ -63,17 +62,18 @@ fn are_kept(lists: &Lists) -> bool {
         &lists.work,
     ];
     all.iter()
-        .all(|list| list.iter().all(|number| *number == PATTERN))
+        .all(|list| list.lent().iter().all(|number| *number == PATTERN))
 }
 
 // Prepares a text, and counts its piece from 3 to a place.
-fn try_case(rt: &(impl Print + AllocGlobal), tables: &Tables<'_>, case: Case) -> io::Result<()> {
+fn try_case(rt: &impl Print, tables: &Tables<'_>, case: Case) -> io::Result<()> {
     let Case(bytes, short, entries, end) = case;
-    let text = vec![in rt.alloc(); 1; bytes]?;
+    let ones = [1; 4097];
+    let text = ones.get(..bytes).unwrap_or(&ones);
     let tables = with_area(tables, entries);
-    let mut lists = patterns(rt.alloc(), short)?;
-    let prepared = Answered(lists.prepare(&tables, &text));
-    let counted = Answered(lists.count(&tables, &text, 3, end));
+    let mut lists = patterns(short);
+    let prepared = Answered(lists.prepare(&tables, text));
+    let counted = Answered(lists.count(&tables, text, 3, end));
     let left = kept_or_changed(are_kept(&lists));
     let number = short as u8;
     print!(rt; "bytes {bytes} {number} {entries} {end}: ")?;
@@ -81,7 +81,7 @@ fn try_case(rt: &(impl Print + AllocGlobal), tables: &Tables<'_>, case: Case) ->
 }
 
 // All cases, over texts of ones.
-pub(crate) fn say_refusals(rt: &(impl Print + AllocGlobal), tables: &Tables<'_>) -> io::Result<()> {
+pub(crate) fn say_refusals(rt: &impl Print, tables: &Tables<'_>) -> io::Result<()> {
     println!(rt; "intervals: bytes, short buffer, search area, end")?;
     for case in CASES {
         try_case(rt, tables, case)?;

@@ -2,31 +2,60 @@
 use crate::said::{Tally, say_answer};
 use causes::Cause;
 use interval_count::IntervalTables;
-use std::alloc::{AllocError, Global};
 use std::io;
 use tables::Tables;
+
+// How many numbers a list has room for: one more than the longest text has bytes.
+const ROOM: usize = 201;
+
+// A list of which the first `lent` numbers are lent, or all if there are fewer.
+#[derive(Drop)]
+pub(crate) struct List {
+    numbers: [u32; ROOM],
+    lent: usize,
+}
+
+impl List {
+    // A list of one number alone, of which so many are lent.
+    pub(crate) fn new(number: u32, lent: usize) -> Self {
+        List {
+            numbers: [number; ROOM],
+            lent,
+        }
+    }
+
+    // What is lent, to be read.
+    pub(crate) fn lent(&self) -> &[u32] {
+        &self.numbers[..self.lent.min(ROOM)]
+    }
+
+    // What is lent, to be written.
+    fn lent_mut(&mut self) -> &mut [u32] {
+        &mut self.numbers[..self.lent.min(ROOM)]
+    }
+}
 
 // The last codes and the tables of the tree of a text, and work numbers.
 #[derive(Drop)]
 pub(crate) struct Lists {
-    pub(crate) last_codes: Vec<u32>,
-    pub(crate) numbers: Vec<u32>,
-    pub(crate) ends: Vec<u32>,
-    pub(crate) depths: Vec<u32>,
-    pub(crate) work: Vec<u32>,
+    pub(crate) last_codes: List,
+    pub(crate) numbers: List,
+    pub(crate) ends: List,
+    pub(crate) depths: List,
+    pub(crate) work: List,
 }
 
 impl Lists {
-    // Lists for a text of so many bytes.
-    fn new(alloc: Global, size: usize) -> Result<Self, AllocError> {
+    // Lists for a text of so many bytes, at most 200.
+    fn new(size: usize) -> Self {
         let entries = size.saturating_add(1);
-        Ok(Lists {
-            last_codes: vec![in alloc; 0; size]?,
-            numbers: vec![in alloc; 0; entries]?,
-            ends: vec![in alloc; 0; entries]?,
-            depths: vec![in alloc; 0; entries]?,
-            work: vec![in alloc; 0; size]?,
-        })
+        Lists {
+            last_codes: List::new(0, size),
+            numbers: List::new(0, entries),
+            ends: List::new(0, entries),
+            depths: List::new(0, entries),
+            work: List::new(0, size),
+        }
     }
 
     // Prepares them for a text.
@@ -34,11 +63,11 @@ impl Lists {
         interval_prepare::prepare(
             tables,
             text,
-            &mut self.last_codes,
-            &mut self.numbers,
-            &mut self.ends,
-            &mut self.depths,
-            &mut self.work,
+            self.last_codes.lent_mut(),
+            self.numbers.lent_mut(),
+            self.ends.lent_mut(),
+            self.depths.lent_mut(),
+            self.work.lent_mut(),
         )
     }
 
@@ -52,19 +81,19 @@ impl Lists {
     ) -> Result<usize, Cause> {
         let prepared = IntervalTables {
             text,
-            last_codes: &self.last_codes,
-            numbers: &self.numbers,
-            ends: &self.ends,
-            depths: &self.depths,
+            last_codes: self.last_codes.lent(),
+            numbers: self.numbers.lent(),
+            ends: self.ends.lent(),
+            depths: self.depths.lent(),
         };
-        prepared.count(tables, start, end, &mut self.work)
+        prepared.count(tables, start, end, self.work.lent_mut())
     }
 }
 
 // Prints the counts of four pieces of "abcd", two of which are refused.
-pub(crate) fn say_samples(rt: &(impl Print + AllocGlobal), tables: &Tables<'_>) -> io::Result<()> {
+pub(crate) fn say_samples(rt: &impl Print, tables: &Tables<'_>) -> io::Result<()> {
     let text = b"abcd";
-    let mut lists = Lists::new(rt.alloc(), text.len())?;
+    let mut lists = Lists::new(text.len());
     // A refusal would show in the counts.
     let _ = lists.prepare(tables, text);
     say_answer(rt, "P6 interval 1 to 4", lists.count(tables, text, 1, 4))?;
@@ -73,15 +102,15 @@ pub(crate) fn say_samples(rt: &(impl Print + AllocGlobal), tables: &Tables<'_>) 
     say_answer(rt, "interval 0 to 5", lists.count(tables, text, 0, 5))
 }
 
-// Compares the counts of all pieces of a text.
+// Compares the counts of all pieces of a text of at most 200 bytes.
 pub(crate) fn say_pieces(
-    rt: &(impl Print + AllocGlobal),
+    rt: &impl Print,
     name: &str,
     tables: &Tables<'_>,
     text: &[u8],
 ) -> io::Result<()> {
-    let mut lists = Lists::new(rt.alloc(), text.len())?;
-    let mut work = vec![in rt.alloc(); 0; text.len()]?;
+    let mut lists = Lists::new(text.len());
+    let mut work = [0; 200];
     let mut tally = Tally::default();
     // A refusal would show in the counts.
     let _ = lists.prepare(tables, text);

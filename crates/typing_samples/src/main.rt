@@ -15,14 +15,16 @@ use tables::Tables;
 use typing_columns::Side;
 
 // All of it over tables that were built.
-fn work(rt: &(impl Print + AllocGlobal), tables: &Tables<'_>) -> io::Result<()> {
+fn work(rt: &impl Print, tables: &Tables<'_>) -> io::Result<()> {
     typing_texts::say_samples(rt, tables)?;
     intervals::say_samples(rt, tables)?;
-    let text = texts::draw(rt.alloc(), 4096, 1)?;
+    let mut text = [0; 4096];
+    texts::draw(&mut text, 1);
     for side in [Side::Append, Side::Prepend] {
         typing_texts::say_side(rt, side, tables, &text)?;
     }
-    let letters = texts::draw(rt.alloc(), 200, 2)?;
+    let mut letters = [0; 200];
+    texts::draw(&mut letters, 2);
     intervals::say_pieces(rt, "letters", tables, &letters)?;
     intervals::say_pieces(rt, "one byte repeated", tables, &[b'a'; 200])?;
     for side in [Side::Append, Side::Prepend] {
@@ -32,7 +34,7 @@ fn work(rt: &(impl Print + AllocGlobal), tables: &Tables<'_>) -> io::Result<()> 
 }
 
 fn main(rt: HostRuntime) -> io::Result<()> {
-    let file = texts::sample_e(rt.alloc())?;
+    let file = texts::sample_e();
     let mut places = [0; 300];
     let mut lefts = [0; 300];
     let mut rights = [0; 300];

@@ -1,18 +1,36 @@
 // The phrase file E of document 01, the texts to type, and tables with a part of the search area.
-use std::alloc::{AllocError, Global};
 use tables::Tables;
 use typing_columns::Side;
 
-// The phrase file E: the 256 bytes in order, then bc, ab and cd.
-pub(crate) fn sample_e(alloc: Global) -> Result<Vec<u8>, AllocError> {
-    let mut file = Vec::new(alloc);
+// Writes bytes from a place on, as far as there is room, and gives the place behind them.
+pub(crate) fn put(out: &mut [u8], at: usize, bytes: &[u8]) -> usize {
+    let mut end = at;
+    for byte in bytes {
+        if end < out.len() {
+            out[end] = *byte;
+            end += 1;
+        }
+    }
+    end
+}
+
+// Writes the rows of one byte, in order, and gives the place behind them.
+fn put_letters(file: &mut [u8]) -> usize {
+    let mut end = 0;
     for byte in 0..=u8::MAX {
-        file.extend_from_slice(&[0xc7, 0x51, 1, byte])?;
+        end = put(file, end, &[0xc7, 0x51, 1, byte]);
     }
+    end
+}
+
+// The phrase file E: the 256 bytes in order, then bc, ab and cd.
+pub(crate) fn sample_e() -> [u8; 1039] {
+    let mut file = [0; 1039];
+    let mut end = put_letters(&mut file);
     for [first, second] in [*b"bc", *b"ab", *b"cd"] {
-        file.extend_from_slice(&[0xc7, 0x51, 2, first, second])?;
+        end = put(&mut file, end, &[0xc7, 0x51, 2, first, second]);
     }
-    Ok(file)
+    file
 }
 
 // The number after x in a list that looks drawn by lot.
@@ -25,22 +43,29 @@ fn letter(x: u64) -> u8 {
     b'a' + (x / 65536 % 4) as u8
 }
 
-// A text of so many of such letters.
-pub(crate) fn draw(alloc: Global, size: usize, seed: u64) -> Result<Vec<u8>, AllocError> {
-    let mut text = Vec::new(alloc);
+// Fills a text with such letters.
+pub(crate) fn draw(text: &mut [u8], seed: u64) {
     let mut x = seed;
-    for _ in 0..size {
+    for byte in text {
         x = next_drawn(x);
-        text.push(letter(x))?;
+        *byte = letter(x);
     }
-    Ok(text)
 }
 
-// What typed bytes read: in prepending each byte went before the others.
-pub(crate) fn reading(alloc: Global, side: Side, typed: &[u8]) -> Result<Vec<u8>, AllocError> {
+// Writes bytes from the end back, and gives what was written: at most as many as there is room for.
+fn mirrored<'a>(bytes: &[u8], room: &'a mut [u8; 4096]) -> &'a [u8] {
+    for (place, byte) in room.iter_mut().zip(bytes.iter().rev()) {
+        *place = *byte;
+    }
+    room.get(..bytes.len()).unwrap_or(room)
+}
+
+// What at most 4,096 typed bytes read: in prepending each byte went before the others, and the room takes them from
+// the end back.
+pub(crate) fn reading<'a>(side: Side, typed: &'a [u8], room: &'a mut [u8; 4096]) -> &'a [u8] {
     match side {
-        Side::Append => typed.to_vec(alloc),
-        Side::Prepend => typed.iter().rev().copied().collect(alloc),
+        Side::Append => typed,
+        Side::Prepend => mirrored(typed, room),
     }
 }
 

@@ -4,7 +4,6 @@
 // nothing but added bytes can change anything. What must be printed comes from tools/refusals.py.
 use crate::said::{Answered, kept_or_changed, name_of};
 use crate::texts::with_area;
-use std::alloc::{AllocError, Global};
 use std::io;
 use tables::Tables;
 use typing::{Head, State};
@@ -45,11 +44,14 @@ fn pattern(place: usize, wrong: Option<usize>) -> State {
     }
 }
 
-// So many records that hold the pattern.
-fn patterns(alloc: Global, records: usize, wrong: Option<usize>) -> Result<Vec<State>, AllocError> {
-    (0..records)
-        .map(|place| pattern(place, wrong))
-        .collect(alloc)
+// So many records that hold the pattern, at the front of the room for them; all of it if there are fewer.
+fn patterns(room: &mut [State], records: usize, wrong: Option<usize>) -> &mut [State] {
+    let end = records.min(room.len());
+    let states = &mut room[..end];
+    for (place, state) in states.iter_mut().enumerate() {
+        *state = pattern(place, wrong);
+    }
+    states
 }
 
 // Whether every record holds the pattern.
@@ -60,39 +62,34 @@ fn is_kept(states: &[State], wrong: Option<usize>) -> bool {
         .all(|(place, state)| *state == pattern(place, wrong))
 }
 
-// Does the calls of a case, and prints its numbers, their answers and what they left.
-fn try_case(
-    rt: &(impl Print + AllocGlobal),
-    side: Side,
-    tables: &Tables<'_>,
-    case: Case,
-) -> io::Result<()> {
+// Does the calls of a case, and prints its numbers, their answers and what they left. Not inlined: its records take
+// stack only while it runs.
+#[inline(never)]
+fn try_case(rt: &impl Print, side: Side, tables: &Tables<'_>, case: Case) -> io::Result<()> {
     let Case(records, len, wrong, entries, typed) = case;
     let number = wrong.unwrap_or(9999);
     print!(rt; "records {records} {len} {number} {entries} {typed}: ")?;
     let tables = with_area(tables, entries);
-    let mut states = patterns(rt.alloc(), records, wrong)?;
+    let mut room = [pattern(0, None); 4100];
+    let states = patterns(&mut room, records, wrong);
     let mut head = Head { len };
-    let bytes = vec![in rt.alloc(); 1; typed]?;
-    let extended = Answered(typing::extend(&tables, side, &mut head, &mut states, &bytes));
-    let cut = Answered(typing::truncate(&mut head, &states, usize::MAX));
-    let counted = Answered(typing::token_count(&tables, side, &head, &states));
+    let ones = [1; 4097];
+    let bytes = ones.get(..typed).unwrap_or(&ones);
+    let extended = Answered(typing::extend(&tables, side, &mut head, states, bytes));
+    let cut = Answered(typing::truncate(&mut head, states, usize::MAX));
+    let counted = Answered(typing::token_count(&tables, side, &head, states));
     print!(rt; "extend {extended}, truncate {cut}, token_count {counted}, ")?;
     let len = head.len;
-    let kept = kept_or_changed(is_kept(&states, wrong));
+    let kept = kept_or_changed(is_kept(states, wrong));
     print!(rt; "length {len}, {kept}; ")?;
-    let pushed = Answered(typing::push(&tables, side, &mut head, &mut states, 1));
+    let pushed = Answered(typing::push(&tables, side, &mut head, states, 1));
     let len = head.len;
-    let kept = kept_or_changed(is_kept(&states, wrong));
+    let kept = kept_or_changed(is_kept(states, wrong));
     println!(rt; "push {pushed}, length {len}, {kept}")
 }
 
 // All cases of one side.
-pub(crate) fn say_side(
-    rt: &(impl Print + AllocGlobal),
-    side: Side,
-    tables: &Tables<'_>,
-) -> io::Result<()> {
+pub(crate) fn say_side(rt: &impl Print, side: Side, tables: &Tables<'_>) -> io::Result<()> {
     let name = name_of(side);
     println!(rt; "{name}: records, length, record out of form, search area, bytes")?;
     for case in CASES {

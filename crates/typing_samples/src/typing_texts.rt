@@ -1,8 +1,7 @@
 // Typed texts against `count` of what the typed bytes read.
 use crate::said::{Tally, name_of};
-use crate::texts::reading;
+use crate::texts::{put, reading};
 use causes::Cause;
-use std::alloc::{AllocError, Global};
 use std::io;
 use tables::Tables;
 use typing_columns::{Columns, Side};
@@ -20,66 +19,56 @@ pub(crate) fn say_samples(rt: &impl Print, tables: &Tables<'_>) -> io::Result<()
 
 // A text typed on one side, byte by byte into records and in pieces over columns.
 pub(crate) fn say_side(
-    rt: &(impl Print + AllocGlobal),
+    rt: &impl Print,
     side: Side,
     tables: &Tables<'_>,
     text: &[u8],
 ) -> io::Result<()> {
     let name = name_of(side);
-    let tally = by_bytes(rt.alloc(), side, tables, text)?;
+    let tally = by_bytes(side, tables, text);
     println!(rt; "{name} byte by byte: {tally}")?;
-    let tally = by_pieces(rt.alloc(), side, tables, text, |_| 0)?;
+    let tally = by_pieces(side, tables, text, |_| 0);
     println!(rt; "{name} in pieces: {tally}")?;
-    let tally = by_pieces(rt.alloc(), side, tables, text, |size| size / 2)?;
+    let tally = by_pieces(side, tables, text, |size| size / 2);
     println!(rt; "{name} in pieces, halves taken back: {tally}")
 }
 
 // `count` of what typed bytes read.
-fn count_typed(
-    alloc: Global,
-    side: Side,
-    tables: &Tables<'_>,
-    typed: &[u8],
-) -> Result<Result<usize, Cause>, AllocError> {
+fn count_typed(side: Side, tables: &Tables<'_>, typed: &[u8]) -> Result<usize, Cause> {
     let mut work = [0; 4096];
-    let text = reading(alloc, side, typed)?;
-    Ok(byte_pair_encoding::count(tables, &text, &mut work))
+    let mut room = [0; 4096];
+    byte_pair_encoding::count(tables, reading(side, typed, &mut room), &mut work)
 }
 
-// Types a text, one byte after the other, into records, and compares the count after each.
-fn by_bytes(
-    alloc: Global,
-    side: Side,
-    tables: &Tables<'_>,
-    text: &[u8],
-) -> Result<Tally, AllocError> {
+// Types a text, one byte after the other, into records, and compares the count after each. Not inlined, as the other
+// functions with large arrays: each then takes stack only while it runs.
+#[inline(never)]
+fn by_bytes(side: Side, tables: &Tables<'_>, text: &[u8]) -> Tally {
     let mut tally = Tally::default();
     let mut counts = [0; 4096];
     let end = typing::type_text(tables, side, text, &mut counts);
     for (place, count) in counts.iter().take(end).enumerate() {
         let typed = text.get(..place + 1).unwrap_or(text);
-        tally.compare(
-            Ok(*count as usize),
-            count_typed(alloc, side, tables, typed)?,
-        );
+        tally.compare(Ok(*count as usize), count_typed(side, tables, typed));
     }
-    Ok(tally)
+    tally
 }
 
 // Types a text in pieces of 1, 2, 3, .. bytes, and compares the count after each. After a piece so many of its bytes
 // are taken back before the next one. The bytes typed so far are kept in a book of our own.
+#[inline(never)]
 fn by_pieces<F: Fn(usize) -> usize>(
-    alloc: Global,
     side: Side,
     tables: &Tables<'_>,
     text: &[u8],
     taken_back: F,
-) -> Result<Tally, AllocError>
+) -> Tally
     requires { F.IsAlwaysCallable taken_back }
 {
     let mut tally = Tally::default();
     let mut columns = Columns::blank();
-    let mut book = Vec::new(alloc);
+    let mut book = [0; 4096];
+    let mut len = 0;
     let mut left = text;
     for size in 1..=text.len() {
         if left.is_empty() {
@@ -87,11 +76,12 @@ fn by_pieces<F: Fn(usize) -> usize>(
         }
         let (piece, others) = left.split_at(size.min(left.len()));
         left = others;
-        let extended = columns.extend(tables, side, book.len(), 4096, piece);
-        book.extend_from_slice(piece)?;
+        let extended = columns.extend(tables, side, len, 4096, piece);
+        len = put(&mut book, len, piece);
         let counted = extended.and_then(|end| columns.token_count(tables, side, end, 4096));
-        tally.compare(counted, count_typed(alloc, side, tables, &book)?);
-        book.truncate(book.len().saturating_sub(taken_back(size)));
+        let typed = book.get(..len).unwrap_or(&book);
+        tally.compare(counted, count_typed(side, tables, typed));
+        len = len.saturating_sub(taken_back(size));
     }
-    Ok(tally)
+    tally
 }
